@@ -1,10 +1,7 @@
 -- A side that is ready has room for a snapshot.
-use Rattle.std.proofs.Common.{◌≡◌, true, Option, Some, None, refl, ap, sym, ◌∙◌, true≢false}
+use Rattle.std.proofs.Common.{◌≡◌, true, Option, Some, None, refl, sym, true≢false}
 use Rattle.std.specs.Option.{is_some}
 use Rattle.managed_heap.specs.declared.rooms.SnapRoom.{SnapRoom}
-
-pub not_ready : (room : Option SnapRoom) → room ≡ None → is_some room ≡ true → ⊥
-not_ready room none ready = true≢false (sym ready ∙ ap is_some none)
 
 pub room_there : (room : Option SnapRoom) → is_some room ≡ true → (r : SnapRoom) × (room ≡ Some r)
 room_there None ready = absurd (true≢false (sym ready))

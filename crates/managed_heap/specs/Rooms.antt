@@ -11,16 +11,28 @@ abbrev pub fields_in : Heap → List ℕ → ℕ
 fields_in h [] = 0
 fields_in h (x ∷ xs) = length (fields_of h x) + fields_in h xs
 
--- the lists are empty and have a place for each row, the places are all 0, and the graph has room for each row and each
--- field
-pub record FitsRows (r : Room) (h : Heap) : Type 0 where
-  pub freed : (r.freed.items ≡ []) × (length h.fields ≤ vec_capacity r.freed)
-  pub candidates : (r.candidates.items ≡ []) × (length h.fields ≤ vec_capacity r.candidates)
-  pub dead : (r.dead.items ≡ []) × (length h.fields ≤ vec_capacity r.dead)
-  pub places : r.places.items ≡ replicate (length h.fields + 1) 0
+-- nothing is in the lists and in the graph
+pub record IsNoRoom (r : Room) : Type 0 where
+  pub freed : r.freed.items ≡ []
+  pub candidates : r.candidates.items ≡ []
+  pub dead : r.dead.items ≡ []
+  pub places : r.places.items ≡ []
   pub graph : (r.graph.nodes ≡ []) × (r.graph.edges ≡ [])
-  pub nodes : length h.fields ≤ r.graph.spare_nodes
-  pub edges : sum (map length h.fields) ≤ r.graph.spare_edges
+
+-- the lists are empty and have a place for each of so many rows, the places are all 0, and the graph has room for each
+-- of them and for so many fields
+pub record HasRoomFor (r : Room) (rows fields : ℕ) : Type 0 where
+  pub freed : (r.freed.items ≡ []) × (rows ≤ vec_capacity r.freed)
+  pub candidates : (r.candidates.items ≡ []) × (rows ≤ vec_capacity r.candidates)
+  pub dead : (r.dead.items ≡ []) × (rows ≤ vec_capacity r.dead)
+  pub places : r.places.items ≡ replicate (rows + 1) 0
+  pub graph : (r.graph.nodes ≡ []) × (r.graph.edges ≡ [])
+  pub nodes : rows ≤ r.graph.spare_nodes
+  pub edges : fields ≤ r.graph.spare_edges
+
+-- it is room for the rows of these objects and their fields
+abbrev pub FitsRows : Room → Heap → Type 0
+FitsRows r h = HasRoomFor r (length h.fields) (sum (map length h.fields))
 
 -- the room is enough for a snapshot of these objects, whatever pins it is given: for what it makes of its rows, and for
 -- a notice for each of them after those that were queued

@@ -14,7 +14,7 @@ use crate::side::ManagedSide;
 use joint_model::{Alive, Cycle, Draw, Made, Op, Reply, Span, Thread, enter};
 
 /// What a resolution answers: where the freed rows stand in the list of freed ones, and how many candidates were kept.
-#[derive(Clone, Copy, PartialEq, Eq, Debug)]
+#[derive(Clone, Copy, PartialEq, Eq)]
 pub struct ResolveOut {
     pub freed: Span,
     pub kept: u32,

@@ -13,7 +13,9 @@ ghost use Rattle.managed_heap.specs.Pinned.{pins_given};
 ghost use Rattle.managed_heap.specs.Sides.{as_side, ready_after};
 
 use crate::gates::Closes;
+use crate::rooms::use_up;
 use crate::side::ManagedSide;
+use crate::snapping::Snap;
 use bridge_graph::DeadGraph;
 use joint_model::{Cycle, Draw, MNum, Made, Op, Reply, Span, Thread, enter};
 use std::alloc::AllocError;
@@ -61,7 +63,7 @@ impl ManagedSide {
         }
         self.entries.reserve(3)?;
         let room = self.rows.snap_room()?;
-        self.room = Some(room);
+        drop(self.room.replace(room));
         Ok(())
     }
 
@@ -125,29 +127,34 @@ impl ManagedSide {
         let Some(pins) = gate.close(Cycle(self.rows.next_cycle())) else {
             return None;
         };
-        let Some(room) = self.room.take() else {
-            unreachable!()
-        };
-        let snap = self.rows.snap(&pins, room);
-        let cycle = Cycle(snap.cycle);
+        let room = use_up(&mut self.room);
+        let Snap {
+            cycle,
+            freed,
+            first,
+            candidates,
+            graph,
+        } = self.rows.snap(&pins, room);
+        let cycle = Cycle(cycle);
         let span = Span {
-            first: snap.first,
-            count: snap.freed.len() as u32,
+            first,
+            count: freed.len() as u32,
         };
         let made = Made {
             caller: Thread::C,
             index,
             op: Op::Snap { cycle },
-            reply: Reply::Snapped(snap.candidates, span),
+            reply: Reply::Snapped(candidates, span),
             cites: None,
         };
-        let number = enter(&mut self.entries, gate, made, None, &snap.freed);
+        let number = enter(&mut self.entries, gate, made, None, &freed);
+        drop(freed);
         Some(Opened {
             cycle,
             number,
-            candidates: snap.candidates,
+            candidates,
             freed: span,
-            graph: snap.graph,
+            graph,
         })
     }
 }

@@ -4,7 +4,7 @@
 // left them out, and what is made since has its mark from the start. So a marking that goes on from the kept candidates
 // stays within the dead part, and all that it leaves out of it goes.
 
-ghost use Rattle.std.specs.Prelude.{◌≡◌, ℕ, ◌+◌, ◌<◌, ◌≤◌, ◌↔◌, ◌⊎◌, ◌∷◌, [], ◌++◌, Bool, true, false, not, Some};
+ghost use Rattle.std.specs.Prelude.{◌≡◌, ℕ, ◌+◌, ◌<◌, ◌≤◌, ◌↔◌, ◌⊎◌, ◌∷◌, [], ◌++◌, Bool, true, false, not, Some, None};
 ghost use Rattle.std.specs.Prelude.{IsSome, is_some, Contains, All, IsTrue, length, map, filter, count_by, slice_get};
 ghost use Rattle.joint_machine.specs.Cycles.{IsAnsweredAlive};
 ghost use Rattle.joint_machine.specs.Heaps.{IsLive};
@@ -53,7 +53,7 @@ impl ManagedRows {
         ensures state { self.new ≡ record self.old { managed = abandoned self.old.managed } }
     {
         let number = self.open_number();
-        self.cycle = None;
+        drop(self.cycle.take());
         number
     }
 
@@ -80,21 +80,32 @@ impl ManagedRows {
         ensures few { length result.freed.items ≤ 65535 }
     {
         let first = self.heap.made() - self.heap.live();
-        let Some(open) = self.cycle.take() else {
-            unreachable!()
-        };
+        let open = close(&mut self.cycle);
         let cycle = open.number();
         let (candidates, freed) = settle(open, &mut self.heap, alive);
         self.heap.free(&freed);
         notify(&freed, &self.headers, &mut self.notices);
         forget_pairs(&freed, &mut self.headers, &mut self.registry);
         renew(&candidates, alive, &mut self.headers);
+        drop(candidates);
         Resolution {
             cycle,
             freed,
             first,
             kept: count_alive(alive),
         }
+    }
+}
+
+// Closes the open cycle.
+fn close(cycle: &mut Option<OpenParts>) -> OpenParts
+    requires { IsSome cycle.old }
+    ensures opened { cycle.old ≡ Some result }
+    ensures closed { cycle.new ≡ None }
+{
+    match cycle.take() {
+        None => unreachable!(),
+        Some(open) => open,
     }
 }
 

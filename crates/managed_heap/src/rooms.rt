@@ -5,8 +5,8 @@
 // an edge for each of their fields. The cycle owes a notice for each candidate: these stand after those that were
 // queued, in a list into which the queue moves where its own is too short.
 
-ghost use Rattle.std.specs.Prelude.{◌≡◌, ◌+◌, ◌≤◌, [], IfOk, None, length, map, replicate, sum, vec_capacity};
-ghost use Rattle.managed_heap.specs.Rooms.{FitsSnap};
+ghost use Rattle.std.specs.Prelude.{◌≡◌, ◌+◌, ◌≤◌, [], IfOk, IsSome, OnOk, None, Some, vec_capacity};
+ghost use Rattle.managed_heap.specs.Rooms.{FitsRows, FitsSnap, HasRoomFor, IsNoRoom};
 
 use crate::rows::ManagedRows;
 use bridge_graph::GraphBuilder;
@@ -27,25 +27,41 @@ pub(crate) struct Room {
 impl Room {
     /// Room for a snapshot of these rows.
     pub(crate) fn of(alloc: Global, heap: &RowHeap<MNum>) -> Result<Room, AllocError>
-        ensures freed { IfOk result (λ r. (r.freed.items ≡ []) × (length heap.now.heap.fields ≤ vec_capacity r.freed)) }
-        ensures candidates { IfOk result (λ r. (r.candidates.items ≡ [])
-            × (length heap.now.heap.fields ≤ vec_capacity r.candidates)) }
-        ensures dead { IfOk result (λ r. (r.dead.items ≡ []) × (length heap.now.heap.fields ≤ vec_capacity r.dead)) }
-        ensures places { IfOk result (λ r. r.places.items ≡ replicate (length heap.now.heap.fields + 1) 0) }
-        ensures graph { IfOk result (λ r. (r.graph.nodes ≡ []) × (r.graph.edges ≡ [])) }
-        ensures nodes { IfOk result (λ r. length heap.now.heap.fields ≤ r.graph.spare_nodes) }
-        ensures edges { IfOk result (λ r. sum (map length heap.now.heap.fields) ≤ r.graph.spare_edges) }
+        ensures { IfOk result (λ r. FitsRows r heap.now.heap) }
     {
-        let made = heap.made();
-        let mut graph = GraphBuilder::new(alloc);
-        graph.reserve(made, heap.fields_made())?;
-        Ok(Room {
-            freed: Vec::with_capacity(alloc, made as usize)?,
-            candidates: Vec::with_capacity(alloc, made as usize)?,
-            dead: Vec::with_capacity(alloc, made as usize)?,
-            places: vec![in alloc; 0u32; made as usize + 1]?,
-            graph,
-        })
+        let mut room = Room::none(alloc);
+        match room.take(heap.made(), heap.fields_made()) {
+            Ok(()) => Ok(room),
+            Err(error) => {
+                drop(room);
+                Err(error)
+            }
+        }
+    }
+
+    // No room.
+    fn none(alloc: Global) -> Room
+        ensures { IsNoRoom result }
+    {
+        Room {
+            freed: Vec::new(alloc),
+            candidates: Vec::new(alloc),
+            dead: Vec::new(alloc),
+            places: Vec::new(alloc),
+            graph: GraphBuilder::new(alloc),
+        }
+    }
+
+    // Takes room for so many rows with so many fields together.
+    fn take(&mut self, rows: u32, fields: u32) -> Result<(), AllocError>
+        requires { IsNoRoom self.old }
+        ensures { OnOk result (HasRoomFor self.new rows fields) }
+    {
+        self.freed.reserve_exact(rows as usize)?;
+        self.candidates.reserve_exact(rows as usize)?;
+        self.dead.reserve_exact(rows as usize)?;
+        self.places.resize(rows as usize + 1, 0)?;
+        self.graph.reserve(rows, fields)
     }
 }
 
@@ -62,7 +78,19 @@ pub(crate) fn give_back(room: &mut Option<SnapRoom>)
     ensures { room.new ≡ None }
 {
     if room.is_some() {
-        *room = None;
+        drop(room.take());
+    }
+}
+
+/// Takes room out that was taken before.
+pub(crate) fn use_up(room: &mut Option<SnapRoom>) -> SnapRoom
+    requires { IsSome room.old }
+    ensures there { room.old ≡ Some result }
+    ensures used { room.new ≡ None }
+{
+    match room.take() {
+        None => unreachable!(),
+        Some(taken) => taken,
     }
 }
 
@@ -86,8 +114,13 @@ impl ManagedRows {
         ensures { IfOk result (λ r. FitsSnap r self.now.managed) }
     {
         let alloc = *self.headers.allocator();
-        let rows = Room::of(alloc, &self.heap)?;
         let notices = notices_with_room(alloc, self.notices.queued(), self.heap.made())?;
-        Ok(SnapRoom { rows, notices })
+        match Room::of(alloc, &self.heap) {
+            Ok(rows) => Ok(SnapRoom { rows, notices }),
+            Err(error) => {
+                drop(notices);
+                Err(error)
+            }
+        }
     }
 }

@@ -63,11 +63,12 @@ impl ManagedRows {
     pub(crate) fn new(alloc: Global) -> Result<ManagedRows, AllocError>
         ensures { IfOk result (λ r. r ≡ opening_replay) }
     {
+        let cells = Cells::new(alloc)?;
         Ok(ManagedRows {
             heap: RowHeap::new(alloc),
             headers: list_with_room(alloc, MOST_OBJECTS),
             registry: Registry::new(alloc),
-            cells: Cells::new(alloc)?,
+            cells,
             notices: Notices::new(alloc),
             cycle: None,
             cycles: 0,

@@ -90,10 +90,18 @@ impl ManagedSide {
         ensures state { IfOk result (λ s. s.state ≡ opening_replay) }
         ensures ready { IfOk result (λ s. s.ready ≡ false) }
     {
+        let takings = Takings::new(alloc)?;
+        let rows = match ManagedRows::new(alloc) {
+            Ok(rows) => rows,
+            Err(error) => {
+                drop(takings);
+                return Err(error);
+            }
+        };
         Ok(ManagedSide {
             threads,
-            rows: ManagedRows::new(alloc)?,
-            takings: Takings::new(alloc)?,
+            rows,
+            takings,
             entries: Entries::new(alloc, holding),
             room: None,
         })
@@ -171,8 +179,9 @@ impl ManagedSide {
         ensures err { OnErr result ((self.new ≡ self.old) × (draw.new ≡ draw.old)) }
     {
         self.entries.reserve(3)?;
-        let target = self.rows.target(k.0 as usize, place(caller, v), word);
-        let reply = self.rows.weak(k.0 as usize, place(caller, v), word);
+        let at = place(caller, v);
+        let target = self.rows.target(k.0 as usize, at, word);
+        let reply = self.rows.weak(k.0 as usize, at, word);
         let made = Made {
             caller,
             index,

@@ -67,11 +67,12 @@ impl ManagedRows {
         self.cycles += 1;
         self.contracted = false;
         let count = candidates.len() as u32;
-        self.cycle = Some(OpenParts {
+        let open = OpenParts {
             number: self.cycles,
             candidates,
             dead,
-        });
+        };
+        drop(self.cycle.replace(open));
         Snap {
             cycle: self.cycles,
             freed,

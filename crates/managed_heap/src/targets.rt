@@ -1,6 +1,6 @@
 // The targets of weak cells, which only proofs see: what a reader loads is the cell's word in the order.
 
-ghost use Rattle.std.specs.Prelude.{◌≡◌, ◌<◌, slice_set, replicate, None, Some, IfOk};
+ghost use Rattle.std.specs.Prelude.{◌≡◌, ◌<◌, [], slice_set, map, replicate, None, Some, IfOk, OnOk};
 
 use joint_model::CELLS;
 use std::alloc::{AllocError, Global};
@@ -29,10 +29,13 @@ impl Cells {
         ensures { IfOk result (λ c. c ≡ replicate 64 None) }
     {
         let mut list = Vec::new(alloc);
-        for _ in 0..CELLS {
-            list.push(Snapshot::of(&None))?;
+        match unset(&mut list) {
+            Ok(()) => Ok(Cells { list }),
+            Err(error) => {
+                drop(list);
+                Err(error)
+            }
         }
-        Ok(Cells { list })
     }
 
     /// Sets one.
@@ -42,6 +45,17 @@ impl Cells {
     {
         self.list[k] = Snapshot::of(&Some(x));
     }
+}
+
+// Puts so many cells into an empty list, of which none is set.
+fn unset(list: &mut Vec<Snapshot<Option<u32>>>) -> Result<(), AllocError>
+    requires { list.old.items ≡ [] }
+    ensures { OnOk result (map (λ c. c.value) list.new.items ≡ replicate 64 None) }
+{
+    for _ in 0..CELLS {
+        list.push(Snapshot::of(&None))?;
+    }
+    Ok(())
 }
 
 const _: () = prove!(size_of::<Snapshot<Option<u32>>>() == 0);

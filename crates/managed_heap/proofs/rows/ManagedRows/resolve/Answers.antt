@@ -25,7 +25,7 @@ pub settle-candidates-requires-clause-live : goal.settle-candidates-requires-cla
 settle-candidates-requires-clause-live c =
     let kept : ManagedInvariant (rows_of c.self.inside.heap.heap c.self.inside.headers.items c.self.inside.registry c.self.inside.cells no_pins c.self.inside.notices c.self.inside.cycle
     c.self.inside.cycles c.self.inside.contracted).managed = subst (λ (z : ManagedReplay). ManagedInvariant z.managed) (sym c.self.view_is) c.requires.kept.1.managed in
-    let cut = kept.dead c.in-Some.open (sym c.in-Some.ensures.value) in
+    let cut = kept.dead c.close-open.result c.close-open.ensures.opened in
     λ m k. cut.live m ((cut.candidates m).0 k).0
 
 pub settle-candidates-requires-clause-shut : goal.settle-candidates-requires-clause-shut
@@ -33,31 +33,31 @@ settle-candidates-requires-clause-shut c =
     let s = rows_of c.self.inside.heap.heap c.self.inside.headers.items c.self.inside.registry c.self.inside.cells
     no_pins c.self.inside.notices c.self.inside.cycle c.self.inside.cycles c.self.inside.contracted in
     let kept : ManagedInvariant s.managed = subst (λ (z : ManagedReplay). ManagedInvariant z.managed) (sym c.self.view_is) c.requires.kept.1.managed in
-    let opened = sym c.in-Some.ensures.value in
-    shut-open c.self.inside.heap c.self.inside.notices.spare s.managed c.in-Some.open refl c.self.invariant.2 (c.self.invariant.3 c.in-Some.open opened) (kept.dead c.in-Some.open opened)
+    let opened = c.close-open.ensures.opened in
+    shut-open c.self.inside.heap c.self.inside.notices.spare s.managed c.close-open.result refl c.self.invariant.2 (c.self.invariant.3 c.close-open.result opened) (kept.dead c.close-open.result opened)
 
 pub free-requires-clause-can : goal.free-requires-clause-can
 free-requires-clause-can c =
     let s = rows_of c.self.inside.heap.heap c.self.inside.headers.items c.self.inside.registry c.self.inside.cells
     no_pins c.self.inside.notices c.self.inside.cycle c.self.inside.cycles c.self.inside.contracted in
     let kept : ManagedInvariant s.managed = subst (λ (z : ManagedReplay). ManagedInvariant z.managed) (sym c.self.view_is) c.requires.kept.1.managed in
-    let opened = sym c.in-Some.ensures.value in
-    let due = c.self.invariant.3 c.in-Some.open opened in
+    let opened = c.close-open.ensures.opened in
+    let due = c.self.invariant.3 c.close-open.result opened in
     subst (λ z. CanFree c.settle-candidates.new.heap.heap (managed_numbers z)) (sym c.deref.ensures.value)
-    (can-free c.self.inside.heap c.settle-candidates.new.heap s.managed c.in-Some.open (managed_numbers c.settle-candidates.result.1.items) refl
-    (ap (λ (v : HeapRows). v.heap) c.settle-candidates.ensures.rest) due.rise (kept.dead c.in-Some.open opened) c.settle-candidates.ensures.shut c.settle-candidates.ensures.freed)
+    (can-free c.self.inside.heap c.settle-candidates.new.heap s.managed c.close-open.result (managed_numbers c.settle-candidates.result.1.items) refl
+    (ap (λ (v : HeapRows). v.heap) c.settle-candidates.ensures.rest) due.rise (kept.dead c.close-open.result opened) c.settle-candidates.ensures.shut c.settle-candidates.ensures.freed)
 
 pub notify-requires : goal.notify-requires
 notify-requires c =
     let s = rows_of c.self.inside.heap.heap c.self.inside.headers.items c.self.inside.registry c.self.inside.cells
     no_pins c.self.inside.notices c.self.inside.cycle c.self.inside.cycles c.self.inside.contracted in
     let kept : ManagedInvariant s.managed = subst (λ (z : ManagedReplay). ManagedInvariant z.managed) (sym c.self.view_is) c.requires.kept.1.managed in
-    let opened = sym c.in-Some.ensures.value in
-    let due = c.self.invariant.3 c.in-Some.open opened in
+    let opened = c.close-open.ensures.opened in
+    let due = c.self.invariant.3 c.close-open.result opened in
     let freed = managed_numbers c.settle-candidates.result.1.items in
-    let fits = notices-fit s.managed c.in-Some.open freed c.self.inside.notices.spare (kept.dead c.in-Some.open opened) due.notices
-    (subst Rises (sym c.settle-candidates.ensures.freed) (Rises-filter _ c.in-Some.open.dead due.rise))
-    (λ m k. ((unmarked_of-exact c.settle-candidates.new.heap.marks c.in-Some.open.dead m).0 (subst (λ xs. Contains xs m) c.settle-candidates.ensures.freed k)).0) in
+    let fits = notices-fit s.managed c.close-open.result freed c.self.inside.notices.spare (kept.dead c.close-open.result opened) due.notices
+    (subst Rises (sym c.settle-candidates.ensures.freed) (Rises-filter _ c.close-open.result.dead due.rise))
+    (λ m k. ((unmarked_of-exact c.settle-candidates.new.heap.marks c.close-open.result.dead m).0 (subst (λ xs. Contains xs m) c.settle-candidates.ensures.freed k)).0) in
     record { room = rw (c.deref-2.ensures.value, c.deref-3.ensures.value) fits }
 
 pub forget_pairs-requires-clause-rows : goal.forget_pairs-requires-clause-rows
@@ -65,11 +65,11 @@ forget_pairs-requires-clause-rows c =
     let s = rows_of c.self.inside.heap.heap c.self.inside.headers.items c.self.inside.registry c.self.inside.cells
     no_pins c.self.inside.notices c.self.inside.cycle c.self.inside.cycles c.self.inside.contracted in
     let kept : ManagedInvariant s.managed = subst (λ (z : ManagedReplay). ManagedInvariant z.managed) (sym c.self.view_is) c.requires.kept.1.managed in
-    let cut = kept.dead c.in-Some.open (sym c.in-Some.ensures.value) in
+    let cut = kept.dead c.close-open.result c.close-open.ensures.opened in
     let many : length c.self.inside.headers.items ≡ length c.self.inside.heap.heap.fields = sym (length-map c.self.inside.headers.items (λ (i : Header). i.handle)) ∙ kept.places in
     subst (λ z. All (λ m. (1 ≤ m.0) × (m.0 ≤ length c.self.inside.headers.items)) z) (sym c.deref-4.ensures.value)
     (All-numbers (λ m. (1 ≤ m) × (m ≤ length c.self.inside.headers.items)) c.settle-candidates.result.1.items (λ m k. (
-    let l = cut.live m ((unmarked_of-exact c.settle-candidates.new.heap.marks c.in-Some.open.dead m).0 (subst (λ xs. Contains xs m) c.settle-candidates.ensures.freed k)).0 in
+    let l = cut.live m ((unmarked_of-exact c.settle-candidates.new.heap.marks c.close-open.result.dead m).0 (subst (λ xs. Contains xs m) c.settle-candidates.ensures.freed k)).0 in
     (l.made.0, omega (arith, l.made.1, many)))))
 
 pub renew-requires-clause-rows : goal.renew-requires-clause-rows
@@ -77,12 +77,12 @@ renew-requires-clause-rows c =
     let s = rows_of c.self.inside.heap.heap c.self.inside.headers.items c.self.inside.registry c.self.inside.cells
     no_pins c.self.inside.notices c.self.inside.cycle c.self.inside.cycles c.self.inside.contracted in
     let kept : ManagedInvariant s.managed = subst (λ (z : ManagedReplay). ManagedInvariant z.managed) (sym c.self.view_is) c.requires.kept.1.managed in
-    let cut = kept.dead c.in-Some.open (sym c.in-Some.ensures.value) in
+    let cut = kept.dead c.close-open.result c.close-open.ensures.opened in
     let many : length c.self.inside.headers.items ≡ length c.self.inside.heap.heap.fields = sym (length-map c.self.inside.headers.items (λ (i : Header). i.handle)) ∙ kept.places in
     let as_many : length c.forget_pairs.new.headers.items ≡ length c.self.inside.headers.items = sym (length-map c.forget_pairs.new.headers.items (λ (i : Header). i.handle))
     ∙ (ap length c.forget_pairs.ensures.handles ∙ length-map c.self.inside.headers.items (λ (i : Header). i.handle)) in
     subst (λ z. All (λ m. (1 ≤ m) × (m ≤ length c.forget_pairs.new.headers.items)) z) (sym (c.deref-5.ensures.value ∙ c.settle-candidates.ensures.candidates))
-    (All-members (λ m. (1 ≤ m) × (m ≤ length c.forget_pairs.new.headers.items)) c.in-Some.open.candidates (λ m k. (
+    (All-members (λ m. (1 ≤ m) × (m ≤ length c.forget_pairs.new.headers.items)) c.close-open.result.candidates (λ m k. (
     let l = cut.live m ((cut.candidates m).0 k).0 in
     (l.made.0, omega (arith, l.made.1, many, as_many)))))
 
@@ -92,7 +92,7 @@ invariant_of-self c = (
   λ p m. subst (λ (z : List (Option ℕ)). Contains (pairs_of c.forget_pairs.new.registry) (p, m) ↔ (numbered_at z m ≡ Some (Some p))) (sym c.renew.ensures.peers) (c.forget_pairs.ensures.peers p m),
   ap (λ (v : HeapRows). v.refs) c.free.ensures.rest ∙ (ap (λ (v : HeapRows). v.refs) c.settle-candidates.ensures.rest ∙ c.self.invariant.1),
   ap (λ (v : HeapRows). v.follows) c.free.ensures.rest ∙ (ap (λ (v : HeapRows). v.follows) c.settle-candidates.ensures.rest ∙ c.self.invariant.2),
-  λ k o. absurd (none_some k (sym c.take.ensures.after ∙ o)),
+  λ k o. absurd (none_some k (sym c.close-open.ensures.closed ∙ o)),
 )
 
 pub returns-clause-few : goal.returns-clause-few
@@ -100,20 +100,20 @@ returns-clause-few c =
     let s = rows_of c.self.inside.heap.heap c.self.inside.headers.items c.self.inside.registry c.self.inside.cells
     no_pins c.self.inside.notices c.self.inside.cycle c.self.inside.cycles c.self.inside.contracted in
     let kept : ManagedInvariant s.managed = subst (λ (z : ManagedReplay). ManagedInvariant z.managed) (sym c.self.view_is) c.requires.kept.1.managed in
-    let opened = sym c.in-Some.ensures.value in
-    let cut = kept.dead c.in-Some.open opened in
-    let due = c.self.invariant.3 c.in-Some.open opened in
-    let few = rows-few c.self.inside.heap.heap (managed_numbers c.settle-candidates.result.1.items) (subst Rises (sym c.settle-candidates.ensures.freed) (Rises-filter _ c.in-Some.open.dead due.rise))
-    (λ m k. cut.live m ((unmarked_of-exact c.settle-candidates.new.heap.marks c.in-Some.open.dead m).0 (subst (λ xs. Contains xs m) c.settle-candidates.ensures.freed k)).0) in
+    let opened = c.close-open.ensures.opened in
+    let cut = kept.dead c.close-open.result opened in
+    let due = c.self.invariant.3 c.close-open.result opened in
+    let few = rows-few c.self.inside.heap.heap (managed_numbers c.settle-candidates.result.1.items) (subst Rises (sym c.settle-candidates.ensures.freed) (Rises-filter _ c.close-open.result.dead due.rise))
+    (λ m k. cut.live m ((unmarked_of-exact c.settle-candidates.new.heap.marks c.close-open.result.dead m).0 (subst (λ xs. Contains xs m) c.settle-candidates.ensures.freed k)).0) in
     omega (arith, few, length-map c.settle-candidates.result.1.items (λ m. m.0), c.made.ensures.made, c.made.ensures.most)
 
 pub returns-clause-resolution : goal.returns-clause-resolution
 returns-clause-resolution c =
-    let open' = c.in-Some.open in
+    let open' = c.close-open.result in
     let s = rows_of c.self.inside.heap.heap c.self.inside.headers.items c.self.inside.registry c.self.inside.cells
     no_pins c.self.inside.notices c.self.inside.cycle c.self.inside.cycles c.self.inside.contracted in
     let kept : ManagedInvariant s.managed = subst (λ (z : ManagedReplay). ManagedInvariant z.managed) (sym c.self.view_is) c.requires.kept.1.managed in
-    let opened = sym c.in-Some.ensures.value in
+    let opened = c.close-open.ensures.opened in
     let cut = kept.dead open' opened in
     let due = c.self.invariant.3 open' opened in
     let ms = c.settle-candidates.result.1.items in
@@ -124,7 +124,7 @@ returns-clause-resolution c =
     let given : c.deref-5.result.now ≡ candidates_of s.managed = c.deref-5.ensures.value ∙ (c.settle-candidates.ensures.candidates ∙ sym own) in
     let handles : map (λ (k : Header). k.handle) after ≡ renewed s.managed.held (candidates_of s.managed) answers =
     c.renew.ensures.handles ∙ (ap (λ z. renewed z c.deref-5.result.now answers) c.forget_pairs.ensures.handles ∙ ap (λ z. renewed s.managed.held z answers) given) in
-    let next = rows_of c.free.new.self.heap after c.forget_pairs.new.registry c.self.inside.cells no_pins c.notify.new.notices c.take.new.self c.self.inside.cycles c.self.inside.contracted in
+    let next = rows_of c.free.new.self.heap after c.forget_pairs.new.registry c.self.inside.cells no_pins c.notify.new.notices c.close-open.new.cycle c.self.inside.cycles c.self.inside.contracted in
     let heap-is : c.free.new.self.heap ≡ with_freed c.self.inside.heap.heap freed = c.free.ensures.heap
     ∙ (ap (λ z. with_freed c.settle-candidates.new.heap.heap (managed_numbers z)) c.deref.ensures.value ∙ ap (λ (v : HeapRows). with_freed v.heap freed) c.settle-candidates.ensures.rest) in
     let queued : managed_numbers c.notify.new.notices.queued ≡ managed_numbers c.self.inside.notices.queued ++ filter
@@ -136,7 +136,7 @@ returns-clause-resolution c =
       opened = opened;
       resolution = resolution-is c.self.inside.heap c.settle-candidates.new.heap c.self.inside.notices.spare s.managed open'
           c.args.alive.now.values freed refl c.self.invariant.2 due c.settle-candidates.ensures.marks c.settle-candidates.ensures.freed;
-      state = rw c.take.ensures.after (resolved-is c.self.inside.heap.heap c.free.new.self.heap c.self.inside.headers.items after c.self.inside.registry c.forget_pairs.new.registry c.self.inside.cells
+      state = rw c.close-open.ensures.closed (resolved-is c.self.inside.heap.heap c.free.new.self.heap c.self.inside.headers.items after c.self.inside.registry c.forget_pairs.new.registry c.self.inside.cells
           no_pins c.self.inside.notices c.notify.new.notices c.self.inside.cycle c.self.inside.cycles c.self.inside.contracted answers freed heap-is
           (c.renew.ensures.kinds ∙ c.forget_pairs.ensures.kinds) handles (rw c.deref-4.ensures.value at c.forget_pairs.ensures.pairs)
           (queued ∙ ap (λ z. managed_numbers c.self.inside.notices.queued ++ z) same) c.notify.ensures.taken);

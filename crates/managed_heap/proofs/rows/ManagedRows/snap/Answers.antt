@@ -141,7 +141,7 @@ invariant_of-self c =
       ap (λ (v : HeapRows). v.refs) c.mark_slots_again.ensures.rest
           ∙ (ap (λ (v : HeapRows). v.refs) c.free.ensures.rest ∙ (ap (λ (v : HeapRows). v.refs) c.prepare-found.ensures.rest ∙ c.self.invariant.1)),
       ap (λ (v : HeapRows). v.follows) c.mark_slots_again.ensures.rest,
-      λ o e. subst (HasDue c.mark_slots_again.new.heap c.widen.new.self.spare) (same_Some _ o e)
+      λ o e. subst (HasDue c.mark_slots_again.new.heap c.widen.new.self.spare) (same_Some _ o (sym c.replace.ensures.after ∙ e))
           (prepared-due (with_pins s (pins_given c.args.pins.now.at)).managed c.prepare-found.new.heap c.mark_slots_again.new.heap freed found.candidates.items
           (managed_numbers found.dead.items) c.widen.new.self.spare (i.cycles + 1) prepares
           (ap (λ (v : HeapRows). v.heap) c.mark_slots_again.ensures.rest ∙ heap-is) (rw heap-is at c.mark_slots_again.ensures.marks) room),
@@ -158,9 +158,9 @@ returns-clause-snapshot c =
     ∙ (ap (λ z. with_freed c.prepare-found.new.heap.heap (managed_numbers z)) c.deref-2.ensures.value ∙ ap (λ (v : HeapRows). with_freed v.heap freed) c.prepare-found.ensures.rest) in
     let next = rows_of c.mark_slots_again.new.heap.heap i.headers.items i.registry i.cells no_pins c.widen.new.self
     (Some record { number = i.cycles + 1; candidates = found.candidates.items; dead = managed_numbers found.dead.items }) (i.cycles + 1) false in
-    subst (λ z. TakesSnapshot z next (pins_given c.args.pins.now.at) freed (i.cycles + 1) (c.made-2.result - c.live.result) c.len-count.result c.prepare-found.result.graph) c.self.view_is
+    rw c.replace.ensures.after (subst (λ z. TakesSnapshot z next (pins_given c.args.pins.now.at) freed (i.cycles + 1) (c.made-2.result - c.live.result) c.len-count.result c.prepare-found.result.graph) c.self.view_is
     (takes-prepared i.heap.heap c.mark_slots_again.new.heap.heap i.headers.items i.registry i.cells (pins_given c.args.pins.now.at) i.notices c.widen.new.self i.cycle _ i.cycles
     i.contracted c.prepare-found.new.heap freed found.candidates.items found.dead.items (c.made-2.result - c.live.result) c.len-count.result c.prepare-found.result.graph
     closed prepares (ap (λ (v : HeapRows). v.heap) c.mark_slots_again.ensures.rest ∙ heap-is) c.widen.ensures.queued c.widen.ensures.taken refl
     (omega (arith, c.made-2.ensures.made, c.live.ensures)) (omega (arith, c.len-count.ensures, found.candidates.ok))
-    (rw c.deref.ensures.value at c.prepare-found.ensures.nodes) c.prepare-found.ensures.edges)
+    (rw c.deref.ensures.value at c.prepare-found.ensures.nodes) c.prepare-found.ensures.edges))

@@ -5,25 +5,14 @@ use Rattle.std.proofs.lemmas.Result.{IfOk-from_err}
 use Rattle.joint_machine.specs.declared.names.MNum.{MNum}
 use Rattle.managed_heap.proofs.rows.ManagedRows.snap_room.Goals as goal
 
-pub returns-in_err-rows : goal.returns-in_err-rows
-returns-in_err-rows c = IfOk-from_err c.from_residual.result _ c.from_residual.ensures.0
-
 pub returns-in_err-notices : goal.returns-in_err-notices
-returns-in_err-notices c = IfOk-from_err c.from_residual-in_err-notices.result _ c.from_residual-in_err-notices.ensures.0
+returns-in_err-notices c = IfOk-from_err c.from_residual.result _ c.from_residual.ensures.0
 
-pub returns : goal.returns
-returns c =
+pub returns-in-Ok : goal.returns-in-Ok
+returns-in-Ok c =
     let queued = length-map c.self.inside.notices.queued (λ (m : MNum). m.0) in
     rw (← c.self.view_is) (record {
-      rows = record {
-        freed = c.in_ok-rows.ensures.freed;
-        candidates = c.in_ok-rows.ensures.candidates;
-        dead = c.in_ok-rows.ensures.dead;
-        places = c.in_ok-rows.ensures.places;
-        graph = c.in_ok-rows.ensures.graph;
-        nodes = c.in_ok-rows.ensures.nodes;
-        edges = c.in_ok-rows.ensures.edges;
-      };
+      rows = c.in-Ok.ensures;
       empty = c.in_ok-notices.ensures.empty;
       wide = omega (arith, c.in_ok-notices.ensures.wide, queued, c.queued.ensures.queued, c.made.ensures.made);
       most = omega (arith, c.in_ok-notices.ensures.most, queued, c.queued.ensures.queued, c.made.ensures.made);

@@ -6,7 +6,7 @@ use Rattle.joint_machine.proofs.Deciding.{none_some}
 use Rattle.managed_heap.proofs.side.ManagedSide.new.Goals as goal
 
 pub invariant_of-result : goal.invariant_of-result
-invariant_of-result c = rw (c.new-3.ensures.entries, c.in_ok-new.ensures, c.in_ok-new-2.ensures) (
+invariant_of-result c = rw (c.new-3.ensures.entries, c.in-Ok.ensures, c.in_ok-takings.ensures) (
   record { rise = tt; noted = []; same = refl; leads = refl },
   λ e o. (let f : ⊥ = cc in absurd f),
   All-nil _,

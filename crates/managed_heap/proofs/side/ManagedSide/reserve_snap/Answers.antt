@@ -19,11 +19,11 @@ invariant_of-self-2 c = (
   rw c.in_ok-reserve.ensures.entries c.self.invariant.3,
   rw c.in_ok-reserve.ensures.entries c.self.invariant.4,
   λ r e. c.in_ok-reserve.ensures.room,
-  λ r e. subst (λ (z : SnapRoom). FitsSnap z c.self.inside.rows.managed) (same_Some c.in_ok-room.room r e) c.in_ok-room.ensures,
+  λ r e. subst (λ (z : SnapRoom). FitsSnap z c.self.inside.rows.managed) (same_Some c.in_ok-room.room r (sym c.replace.ensures.after ∙ e)) c.in_ok-room.ensures,
 )
 
 pub returns-clause-ok : goal.returns-clause-ok
-returns-clause-ok c = rw (← c.self.view_is, c.in_ok-reserve.ensures.entries) refl
+returns-clause-ok c = rw (← c.self.view_is, c.in_ok-reserve.ensures.entries, c.replace.ensures.after) refl
 
 -- a side that is ready has its room, so no memory is asked for
 pub returns-in_err-reserve-clause-sure : goal.returns-in_err-reserve-clause-sure

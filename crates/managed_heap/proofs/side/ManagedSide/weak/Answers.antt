@@ -32,7 +32,7 @@ invariant_of-self-2 g c =
     let may = rw (← c.self.view_is) at c.requires.may in
     let draws = rw c.in_ok-reserve.ensures.entries at c.enter.ensures.draws in
     let set : weakened_to i.rows.managed c.args.k.0 (place (thread_number c.args.caller) c.args.v.0) ≡ answer c.weak-reply.result c.weak-reply.new.self.managed = ap
-    (λ z. weakened_to i.rows.managed c.args.k.0 z) (sym c.place-2.ensures.at) ∙ c.weak-reply.ensures.answer in
+    (λ z. weakened_to i.rows.managed c.args.k.0 z) (sym c.place-at.ensures.at) ∙ c.weak-reply.ensures.answer in
     let goes = side-goes i.entries.entries i.takings i.rows c.weak-reply.new.self made nothing c.self.invariant.0 (refl, refl, refl)
     (weak-of c.args.caller c.args.index c.args.k c.args.v c.weak-reply.result c.requires.thread c.requires.cell c.requires.var) tt
     (λ hs. line-answers i.rows c.weak-reply.new.self c.args.caller (act.Weak c.args.k c.args.v) c.weak-reply.result hs set c.weak-reply.ensures.rest) in
@@ -54,10 +54,10 @@ returns-clause-adds g c =
     let s = state_of i.takings i.rows in
     let made : Made = step_made c.args.caller c.args.index (weak_op c.args.k c.args.v) c.weak-reply.result None in
     let set : weakened_to i.rows.managed c.args.k.0 (place (thread_number c.args.caller) c.args.v.0) ≡ answer c.weak-reply.result c.weak-reply.new.self.managed = ap
-    (λ z. weakened_to i.rows.managed c.args.k.0 z) (sym c.place-2.ensures.at) ∙ c.weak-reply.ensures.answer in
+    (λ z. weakened_to i.rows.managed c.args.k.0 z) (sym c.place-at.ensures.at) ∙ c.weak-reply.ensures.answer in
     let target : cell_target s c.args.caller (weak_op c.args.k c.args.v) c.weak-reply.result ≡ c.target-target.result =
     ap (λ z. cell_target s c.args.caller (weak_op c.args.k c.args.v) z) (sym (ap (λ a. a.reply) set))
-    ∙ (target-is s c.args.caller c.args.k c.args.v ∙ (ap (λ z. weak_target i.rows c.args.k.0 z) (sym c.place.ensures.at) ∙ c.target-target.ensures.target)) in
+    ∙ (target-is s c.args.caller c.args.k c.args.v ∙ (ap (λ z. weak_target i.rows c.args.k.0 z) (sym c.place-at.ensures.at) ∙ c.target-target.ensures.target)) in
     let draws = rw (c.in_ok-reserve.ensures.entries, ← target) at c.enter.ensures.draws in
     let goes = side-goes i.entries.entries i.takings i.rows c.weak-reply.new.self made nothing c.self.invariant.0 (refl, refl, refl)
     (weak-of c.args.caller c.args.index c.args.k c.args.v c.weak-reply.result c.requires.thread c.requires.cell c.requires.var) tt
