@@ -58,11 +58,12 @@ impl PeerRows {
     pub(crate) fn new(alloc: Global) -> Result<PeerRows, AllocError>
         ensures { IfOk result (λ rows. rows ≡ no_rows) }
     {
+        let issued = Issues::new(alloc)?;
         Ok(PeerRows {
             heap: RowHeap::new(alloc),
             sorts: list_with_room(alloc, MOST_OBJECTS),
             names: [None; NAMES],
-            issued: Issues::new(alloc)?,
+            issued,
             table: HandleTable::new(alloc),
         })
     }
