@@ -1,6 +1,6 @@
 -- What a step of the peer side asks for holds in its thread's turn: a release names a handle that the thread gave up,
 -- or met and didn't take.
-use Rattle.std.proofs.Common.{◌≡◌, ℕ, Option, None, sym, ap, ◌∙◌, subst}
+use Rattle.std.proofs.Common.{◌≡◌, ℕ, Option, None, sym, ◌∙◌, subst}
 use Rattle.joint_machine.specs.declared.names.Thread.{Thread}
 use Rattle.joint_machine.specs.declared.names.Thread.TheVariants.{M, P, C}
 use Rattle.joint_machine.specs.declared.names.HNum.{HNum}
@@ -19,7 +19,6 @@ use Rattle.known_laws.specs.Pasts.{end_of}
 use Rattle.known_laws.proofs.Conditions.{given_may_be_released, met_may_be_released}
 use Rattle.known_laws.proofs.KnownPasts.{past_invariant_holds}
 use Rattle.order_table.specs.declared.views.View.{View}
-use Rattle.order_table.specs.Facts.{line_entries}
 use Rattle.order_table.specs.Views.{Owns}
 use Rattle.peer_heap.specs.Steps.{IsPeerStep, IsStepLine}
 use Rattle.joint_history.specs.Callers.{HoldsPass}

@@ -9,7 +9,6 @@ use Rattle.joint_machine.specs.Control.{Doing, free, caller_place, IsDone}
 use Rattle.joint_machine.specs.Linked.{opening_linkage}
 use Rattle.joint_machine.specs.Lines.{IsThread}
 use Rattle.order_table.specs.declared.views.View.{View}
-use Rattle.order_table.specs.Facts.{line_entries}
 use Rattle.order_table.specs.Tells.{IsOfCaller, Parts}
 use Rattle.order_table.specs.Views.{OwnsAll}
 use Rattle.joint_history.proofs.KnownViews.{no_view}

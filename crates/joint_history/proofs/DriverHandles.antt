@@ -2,8 +2,6 @@
 -- where the driver stands, since the candidates' handles are those that its seat has seen; and what each leaves the
 -- driver with.
 use Rattle.std.proofs.Common.{◌≡◌, ℕ, ◌<◌, ◌^◌, Bool, false, List, length, Some, None, refl, sym, ap, ◌∙◌, subst}
-use Rattle.std.specs.Prelude.{Contains}
-use Rattle.std.proofs.lemmas.Option.{same_Some, slice_get_within}
 use Rattle.joint_machine.specs.declared.names.Cycle.{Cycle}
 use Rattle.joint_machine.specs.declared.names.HNum.{HNum}
 use Rattle.joint_machine.specs.declared.names.Thread.TheVariants.{C}
@@ -11,9 +9,9 @@ use Rattle.joint_machine.specs.declared.events.Op.TheVariants as op
 use Rattle.joint_machine.specs.declared.events.Reply.TheVariants as says
 use Rattle.joint_machine.specs.Control.{OpenSnap, weakening, restoring, IsCandidateHandle, MayClearNow, MayRestoreNow, MayWeakenNow}
 use Rattle.joint_machine.specs.Managed.{Managed, candidates_of}
-use Rattle.joint_machine.specs.PeerReplay.{PeerReplay, Mirror, MayClear, MayRestore, MayWeaken}
+use Rattle.joint_machine.specs.PeerReplay.{PeerReplay, MayClear, MayRestore, MayWeaken}
 use Rattle.joint_machine.specs.Sides.{Side, peer_rules}
-use Rattle.joint_machine.specs.Told.{Answer, said_alive, nothing}
+use Rattle.joint_machine.specs.Told.{Answer, nothing}
 use Rattle.known_laws.proofs.Conditions.{all_may_be_cleared, next_may_be_restored, next_may_be_weakened}
 use Rattle.global_handles.specs.declared.Back.{Back}
 use Rattle.peer_heap.specs.Cycles.{reply_of}

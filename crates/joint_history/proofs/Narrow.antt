@@ -18,7 +18,7 @@ use Rattle.joint_machine.specs.declared.events.Reply.{Reply}
 use Rattle.joint_machine.specs.declared.events.Reply.TheVariants as says
 use Rattle.joint_machine.specs.Components.{End}
 use Rattle.joint_machine.specs.Control.{Doing, gripped, doing_after, doing_at, control_after}
-use Rattle.joint_machine.specs.Heaps.{Heap, Answered, answer, slot, numbered_at, numbered_set, next_number, is_full, fields_of, with_var, with_field, with_object, copied, field_stored, field_set}
+use Rattle.joint_machine.specs.Heaps.{Heap, Answered, answer, slot, numbered_at, next_number, is_full, fields_of, with_var, with_field, with_object, copied, field_stored, field_set}
 use Rattle.joint_machine.specs.Heaps.{read_into, field_got, stored}
 use Rattle.joint_machine.specs.Lines.{IsEvent, IsLine, is_peer_event}
 use Rattle.joint_machine.specs.Linked.{Linkage, MayCome, SideLawful, peer_after, linkage_after, opening_linkage}

@@ -47,7 +47,6 @@ use Rattle.order_table.specs.Tells.{BeginsOneHistory}
 use Rattle.order_table.specs.Views.{OrderId, Shown, known, Owns}
 use Rattle.joint_history.specs.Callers.{HoldsPass, KnowsNothing}
 use Rattle.joint_history.specs.Driven.{DriverStands, driver_entry}
-use Rattle.joint_history.specs.Knowing.{line_known}
 use Rattle.view_laws.specs.Knowing.{IsDrawnView, drawn_lines}
 use Rattle.known_laws.specs.Drawn.{of_drawn}
 use Rattle.known_laws.proofs.Coming.{turn_of}

@@ -2,12 +2,11 @@
 -- cell has a target, only a snapshot and a resolution free objects, and only a snapshot and a `take` are told with
 -- pins. After a plain entry, which does nothing to the cycles and to no pin and frees nothing, the seat is settled as
 -- it was.
-use Rattle.std.proofs.Common.{◌≡◌, ◌⊎◌, inl, inr, ℕ, ◌<◌, false, true, List, [], ◌∷◌, ◌++◌, Option, Some, None, refl, sym, ap, ◌∙◌, subst, arith, true≢false}
+use Rattle.std.proofs.Common.{◌≡◌, inl, inr, ℕ, false, true, List, [], ◌∷◌, ◌++◌, Option, None, refl, sym, ◌∙◌, subst, arith, true≢false}
 use Rattle.joint_machine.specs.declared.names.MNum.{MNum}
 use Rattle.joint_machine.specs.declared.names.Thread.{Thread}
 use Rattle.joint_machine.specs.declared.names.Thread.TheVariants.{M, P, C}
 use Rattle.joint_machine.specs.declared.lines.Act.TheVariants as act
-use Rattle.joint_machine.specs.declared.events.Entry.{Entry}
 use Rattle.joint_machine.specs.declared.events.Made.{Made}
 use Rattle.joint_machine.specs.declared.events.Op.{Op}
 use Rattle.joint_machine.specs.declared.events.Op.TheVariants as op
@@ -17,17 +16,16 @@ use Rattle.joint_machine.specs.Lines.{IsEvent, is_peer_event}
 use Rattle.joint_machine.specs.ManagedReplay.{ManagedReplay, ManagedAllows}
 use Rattle.joint_machine.specs.PeerReplay.{PeerReplay}
 use Rattle.joint_machine.specs.Sides.{GoesOn, MaySetCell, Side, cell_target, managed_rules, objects_freed, peer_rules}
-use Rattle.joint_machine.specs.Told.{Told, nothing, snap_of, resolution_of, contraction_of, phase_of}
+use Rattle.joint_machine.specs.Told.{Told, nothing, contraction_of, phase_of}
 use Rattle.joint_machine.specs.PinsTold.{bare_told, no_pins, pins_told}
 use Rattle.known_laws.proofs.Bared.{peer_unpinned, plain_pins}
 use Rattle.known_laws.proofs.Coming.{peer_reads_none}
 use Rattle.order_table.specs.Allowed.{Settled}
-use Rattle.order_table.specs.Owed.{deed_of_pin, freed_told, pin_deed, stays, target_told}
+use Rattle.order_table.specs.Owed.{freed_told, pin_deed, stays, target_told}
 use Rattle.order_table.specs.Stages.{deed, neither}
-use Rattle.order_table.specs.Views.{IsInRole, OrderId, Shown, kept, pins_kept}
+use Rattle.order_table.specs.Views.{OrderId, Shown, kept, pins_kept}
 use Rattle.managed_heap.specs.Steps.{IsManagedStep}
 use Rattle.seat_calls.specs.Passing.{Appends}
-use Rattle.seat_calls.specs.Paying.{IsPlain}
 use Rattle.seat_calls.proofs.After.{plain_settled}
 use Rattle.view_laws.specs.Knowing.{pins_of}
 use Rattle.joint_history.specs.Locked.{Drew, HasAppended}

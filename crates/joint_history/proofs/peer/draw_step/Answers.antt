@@ -1,10 +1,5 @@
 -- A peer's event sets no cell, and leaves the seat settled.
-use Rattle.std.proofs.Common.{rules}
-use Rattle.joint_machine.specs.Told.{nothing}
-use Rattle.peer_heap.specs.Sides.{seen}
 use Rattle.seat_calls.proofs.Floors.{below_floor, room_left}
-use Rattle.joint_history.specs.Locked.{made_by}
-use Rattle.joint_history.proofs.SeatDraws.{drew_peer, peer_settled}
 use Rattle.joint_history.proofs.peer.draw_step.Goals as goal
 
 pub event-requires-clause-may : goal.event-requires-clause-may
