@@ -51,32 +51,44 @@ fn first_of(act: &Act) -> Op
 fn second_of(act: &Act, reply: Reply) -> Option<Op>
     ensures { result ≡ second_of act.now reply }
 {
-    match (*act, reply) {
-        (
-            Act::Bridge {
-                v,
-                kind,
-                fields,
-                ..
-            },
-            Reply::Made(p, h),
-        ) => Some(Op::Adopt {
+    match *act {
+        Act::Bridge {
             v,
             kind,
             fields,
-            p,
-            h,
-        }),
-        (Act::Pass { v: _, x }, Reply::H(h)) => Some(Op::Land { h, x }),
-        (Act::Surface { v, x: _ }, Reply::Gripped(p, h, sort, fields)) => Some(Op::Meet {
-            v,
-            p,
-            h,
-            sort,
-            fields,
-        }),
-        (Act::Dispose { v: _ }, Reply::H(h)) => Some(Op::Release { h }),
-        (Act::Collect, Reply::Mark(_)) => Some(Op::Sweep),
+            ..
+        } => match reply {
+            Reply::Made(p, h) => Some(Op::Adopt {
+                v,
+                kind,
+                fields,
+                p,
+                h,
+            }),
+            _ => None,
+        },
+        Act::Pass { v: _, x } => match reply {
+            Reply::H(h) => Some(Op::Land { h, x }),
+            _ => None,
+        },
+        Act::Surface { v, x: _ } => match reply {
+            Reply::Gripped(p, h, sort, fields) => Some(Op::Meet {
+                v,
+                p,
+                h,
+                sort,
+                fields,
+            }),
+            _ => None,
+        },
+        Act::Dispose { v: _ } => match reply {
+            Reply::H(h) => Some(Op::Release { h }),
+            _ => None,
+        },
+        Act::Collect => match reply {
+            Reply::Mark(_) => Some(Op::Sweep),
+            _ => None,
+        },
         _ => None,
     }
 }
@@ -85,9 +97,11 @@ fn second_of(act: &Act, reply: Reply) -> Option<Op>
 fn third_of(op: &Op, reply: Reply) -> Option<Op>
     ensures { result ≡ third_of op.now reply }
 {
-    match (*op, reply) {
-        (Op::Meet { .. }, Reply::New(_)) => None,
-        (Op::Meet { h, .. }, _) => Some(Op::Release { h }),
+    match *op {
+        Op::Meet { h, .. } => match reply {
+            Reply::New(_) => None,
+            _ => Some(Op::Release { h }),
+        },
         _ => None,
     }
 }
@@ -99,6 +113,18 @@ fn answer_of(act: &Act, first: Reply, second: Reply) -> Reply
     match *act {
         Act::Dispose { v: _ } => first,
         _ => second,
+    }
+}
+
+// What an operation of two events answers, by their entries' numbers and replies.
+#[inline(always)]
+fn receipt_of_two(act: &Act, first: u64, reply: Reply, second: u64, answer: Reply) -> Receipt
+    ensures { result ≡ record { first = first; last = second; reply = answer_of act.now reply answer } }
+{
+    Receipt {
+        first,
+        last: second,
+        reply: answer_of(act, reply, answer),
     }
 }
 
@@ -281,11 +307,7 @@ impl<N: OrderName, K: Keeps<N>> Shared<N, K> {
         };
         let (second, answer) = self.event(rt, mine, reads, t, index, &next, Some(first))?;
         let Some(end) = third_of(&next, answer) else {
-            return Ok(Receipt {
-                first,
-                last: second,
-                reply: answer_of(act, reply, answer),
-            });
+            return Ok(receipt_of_two(act, first, reply, second, answer));
         };
         let (last, _) = self.event(rt, mine, reads, t, index, &end, Some(second))?;
         Ok(Receipt {

@@ -95,8 +95,7 @@ returns-in_default-third_of-clause-begins g c = second_begins c.args.t c.args.in
     (sym c.second_of.ensures ∙ c.in-Some.is) c.in_ok-second.second c.in_ok-second.answer c.in_ok-second.ensures.ok (sym c.third_of.ensures ∙ none_from c.third_of.result c.in_default-third_of.not-Some)
 
 pub returns-in_default-third_of-clause-ok : goal.returns-in_default-third_of-clause-ok
-returns-in_default-third_of-clause-ok g c = subst (λ r. Runs c.args.t c.args.mine.now.view c.event-2.new.mine.view c.args.index c.args.act.now
-    (record { first = c.in_ok-first.first; last = c.in_ok-second.second; reply = r })) (sym c.answer_of.ensures)
+returns-in_default-third_of-clause-ok g c = subst (Runs c.args.t c.args.mine.now.view c.event-2.new.mine.view c.args.index c.args.act.now) (sym c.receipt_of_two.ensures)
     (second_ends c.args.t c.args.index c.args.act.now c.args.mine.now.view c.event.new.mine.view c.in_ok-first.first c.in_ok-first.reply c.first_of-start.result
     c.first_of-start.ensures c.in_ok-first.ensures.ok c.event-2.new.mine.view c.in-Some.next (sym c.second_of.ensures ∙ c.in-Some.is) c.in_ok-second.second
     c.in_ok-second.answer c.in_ok-second.ensures.ok c.requires.act (sym c.third_of.ensures ∙ none_from c.third_of.result c.in_default-third_of.not-Some))
@@ -154,7 +153,7 @@ returns-in_default-clause-exact g c = exact_first c.args.t c.args.mine.now.view 
 
 pub returns-in_default-third_of-clause-exact : goal.returns-in_default-third_of-clause-exact
 returns-in_default-third_of-clause-exact g c = exact_later c.args.t c.args.mine.now.view c.event-2.new.mine.view
-    c.args.act.now c.in_ok-first.reply c.in-Some.next c.answer_of.result (sym c.second_of.ensures ∙ c.in-Some.is)
+    c.args.act.now c.in_ok-first.reply c.in-Some.next c.receipt_of_two.result.reply (sym c.second_of.ensures ∙ c.in-Some.is)
 
 pub returns-clause-exact : goal.returns-clause-exact
 returns-clause-exact g c = exact_later c.args.t c.args.mine.now.view c.event-3.new.mine.view c.args.act.now
