@@ -1,7 +1,7 @@
 // The callers that weren't given out yet.
 
-ghost use Rattle.std.specs.Prelude.{◌≡◌, ◌≤◌, ◌<◌, ℕ, ◌++◌, IfOk, IfSome, List, Option, Some, option_to_list};
-ghost use Rattle.std.specs.Prelude.{slice_get, true};
+ghost use Rattle.std.specs.Prelude.{◌≡◌, ◌≤◌, ◌<◌, ℕ, ◌++◌, IfOk, OnOk, IfSome, List, Option, Some, option_to_list};
+ghost use Rattle.std.specs.Prelude.{slice_get, true, vec_len};
 ghost use Rattle.joint_machine.specs.Control.{caller_place};
 ghost use Rattle.joint_machine.specs.Lines.{IsThread};
 ghost use Rattle.order_table.specs.Allowed.{Settled};
@@ -79,13 +79,39 @@ fn all_callers<N: OrderName>(
     ensures callers { IfOk result (λ v. AreAll v.items) }
 {
     let mut callers = Vec::new(alloc);
+    match put_callers(alloc, order, seat, holding, &mut callers) {
+        Ok(()) => Ok(callers),
+        Err(error) => {
+            drop(callers);
+            Err(error)
+        }
+    }
+}
+
+// Puts them into an empty list.
+fn put_callers<N: OrderName>(
+    alloc: Global,
+    order: &Order,
+    seat: &mut Seat,
+    holding: Holding,
+    callers: &mut Vec<Option<WaitingPass<N>>>,
+) -> Result<(), AllocError>
+    requires order { (order.now ≡ N.order) × (seat.old.order ≡ N.order) }
+    requires seat { OwnsAll seat.old.view × KnowsNothing seat.old.view }
+    requires settled { Settled seat.old.view }
+    requires empty { vec_len callers.old ≡ 0 }
+    ensures order { seat.new.order ≡ N.order }
+    ensures seat { Owns seat.new.view 0 × Owns seat.new.view 1 × KnowsNothing seat.new.view }
+    ensures settled { Settled seat.new.view }
+    ensures callers { OnOk result (AreAll callers.new.items) }
+{
     for place in 0..17u8 {
         let t = thread_at(place);
         let pass = order.hand(seat, t);
         let reads = Entries::new(alloc, holding);
         callers.push(Some(WaitingPass::new(t, pass, reads)))?;
     }
-    Ok(callers)
+    Ok(())
 }
 
 // The caller that has the pass, if one is there.

@@ -189,12 +189,17 @@ impl<N: OrderName> LockedManaged<N> {
         ensures side { IfOk result (λ l. (l.side.entries ≡ []) × (l.side.state ≡ opening_replay)) }
         ensures seat { IfOk result (λ l. l.view ≡ seat.view) }
     {
-        let side = ManagedSide::new(alloc, threads, holding)?;
-        Ok(LockedManaged {
-            side,
-            seat,
-            of: PhantomData,
-        })
+        match ManagedSide::new(alloc, threads, holding) {
+            Ok(side) => Ok(LockedManaged {
+                side,
+                seat,
+                of: PhantomData,
+            }),
+            Err(error) => {
+                drop(seat);
+                Err(error)
+            }
+        }
     }
 
     /// The side and its seat.

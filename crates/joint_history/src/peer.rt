@@ -129,12 +129,17 @@ impl<N: OrderName> LockedPeer<N> {
         ensures side { IfOk result (λ l. l.side ≡ opening_side threads) }
         ensures seat { IfOk result (λ l. l.view ≡ seat.view) }
     {
-        let side = PeerSide::new(alloc, threads, holding)?;
-        Ok(LockedPeer {
-            side,
-            seat,
-            of: PhantomData,
-        })
+        match PeerSide::new(alloc, threads, holding) {
+            Ok(side) => Ok(LockedPeer {
+                side,
+                seat,
+                of: PhantomData,
+            }),
+            Err(error) => {
+                drop(seat);
+                Err(error)
+            }
+        }
     }
 
     /// The side and its seat.

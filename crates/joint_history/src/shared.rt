@@ -108,9 +108,21 @@ impl<N: OrderName, K: Keeps<N>> Shared<N, K> {
         ensures all { IfOk result (λ r. HasAll r.1 []) }
     {
         let mut seat = seat;
-        let desk = Desk::new(alloc, &order, &mut seat, managed, peers, holding)?;
-        let shared = Shared::with_seat(alloc, order, seat, managed, peers, holding)?;
-        Ok((shared, desk))
+        let desk = match Desk::new(alloc, &order, &mut seat, managed, peers, holding) {
+            Ok(desk) => desk,
+            Err(error) => {
+                drop(seat);
+                drop(order);
+                return Err(error);
+            }
+        };
+        match Shared::with_seat(alloc, order, seat, managed, peers, holding) {
+            Ok(shared) => Ok((shared, desk)),
+            Err(error) => {
+                drop(desk);
+                Err(error)
+            }
+        }
     }
 
     // Both sides, with a seat that owns the lists of both.
@@ -130,11 +142,19 @@ impl<N: OrderName, K: Keeps<N>> Shared<N, K> {
     {
         let mut seat = seat;
         let peer_seat = order.share(&mut seat, Role::Peer);
-        let left = LockedManaged::new(alloc, managed, seat, holding)?;
+        let left = match LockedManaged::new(alloc, managed, seat, holding) {
+            Ok(left) => left,
+            Err(fault) => {
+                drop(peer_seat);
+                drop(order);
+                return Err(fault);
+            }
+        };
         let right = match LockedPeer::new(alloc, peers, peer_seat, holding) {
             Ok(right) => right,
             Err(fault) => {
                 drop(left);
+                drop(order);
                 return Err(fault);
             }
         };

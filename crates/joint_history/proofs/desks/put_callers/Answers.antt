@@ -1,8 +1,6 @@
 use Rattle.std.proofs.Common.{◌≡◌, ◌<◌, ◌+◌, length, arith, sym, ap, ◌∙◌, subst}
 use Rattle.joint_machine.specs.HistoryLines.{caller_line}
-use Rattle.joint_machine.specs.declared.names.Thread.{Thread}
 use Rattle.joint_machine.specs.Lines.{IsThread}
-use Rattle.order_table.specs.declared.views.View.{View}
 use Rattle.order_table.specs.Tells.{IsOfCaller, Parts}
 use Rattle.order_table.specs.Views.{Owns}
 use Rattle.joint_history.specs.Callers.{KnowsNothing, Pass}
@@ -10,7 +8,7 @@ use Rattle.joint_history.specs.Desks.{ArePlaced, thread_of}
 use Rattle.joint_history.proofs.Desking.{holds_all, holds_on, nothing_knows, nothing_on, placed_more, thread_is}
 use Rattle.joint_history.proofs.KnownCallers.{own_line}
 use Rattle.joint_history.proofs.LockedSteps.{not_side}
-use Rattle.joint_history.proofs.desks.all_callers.Goals as goal
+use Rattle.joint_history.proofs.desks.put_callers.Goals as goal
 
 pub hand-pass-requires-clause-pass : goal.hand-pass-requires-clause-pass
 hand-pass-requires-clause-pass g c =
@@ -49,7 +47,7 @@ loop-place-preserved g c =
 pub loop-place-init : goal.loop-place-init
 loop-place-init g c =
     let all = c.requires.seat in
-    (c.requires.order.1, all.0 0 (omega arith), all.0 1 (omega arith), all.1, holds_all c.args.seat.now.view all.0, c.new-callers.ensures.len, λ i l. absurd (omega arith), c.requires.settled)
+    (c.requires.order.1, all.0 0 (omega arith), all.0 1 (omega arith), all.1, holds_all c.args.seat.now.view all.0, c.requires.empty, λ i l. absurd (omega arith), c.requires.settled)
 
 pub returns-in_err-push-clause-seat : goal.returns-in_err-push-clause-seat
 returns-in_err-push-clause-seat g c =

@@ -8,9 +8,9 @@ pub invariant_of-result : goal.invariant_of-result
 invariant_of-result g c = (
   c.requires.seat.0,
   c.requires.seat.1,
-  opening_peer_knows c.args.seat.view (seen c.in_ok-side.side) c.requires.seat.3 (ap (λ (s : PeerModel). s.entries) c.in_ok-side.ensures) (ap (λ (s : PeerModel). s.state) c.in_ok-side.ensures),
-  first_reserves c.args.seat.view c.args.threads c.in_ok-side.side c.requires.seat.3 c.in_ok-side.ensures,
-  ap (λ (s : PeerModel). s.threads) c.in_ok-side.ensures
+  opening_peer_knows c.args.seat.view (seen c.in-Ok.side) c.requires.seat.3 (ap (λ (s : PeerModel). s.entries) c.in-Ok.ensures) (ap (λ (s : PeerModel). s.state) c.in-Ok.ensures),
+  first_reserves c.args.seat.view c.args.threads c.in-Ok.side c.requires.seat.3 c.in-Ok.ensures,
+  ap (λ (s : PeerModel). s.threads) c.in-Ok.ensures
       ∙ c.requires.threads.1,
   c.requires.seat.2,
 )
