@@ -48,6 +48,16 @@ fn no_lists(alloc: Global) -> [Entries; 10]
     std::array::from_fn(|_| Entries::new(alloc, Holding::Every))
 }
 
+// The lists of both sides, before those of the readers.
+fn with_sides(readers: [Entries; 10], managed: Entries, peers: Entries) -> [Entries; 10]
+    ensures { entry_lists result ≡ all_lists managed.entries peers.entries (entry_lists readers) }
+{
+    let mut lists = readers;
+    lists[0] = managed;
+    lists[1] = peers;
+    lists
+}
+
 // Joins the lists of both sides and of the readers into one history.
 fn join_lists(
     alloc: Global,
@@ -63,9 +73,7 @@ fn join_lists(
     ensures peers { IfOk result (λ h. h.freed_peers ≡ right.freed.items) }
     ensures notices { IfOk result (λ h. h.notices ≡ left.notices.items) }
 {
-    let mut lists = readers;
-    lists[0] = left.entries;
-    lists[1] = right.entries;
+    let lists = with_sides(readers, left.entries, right.entries);
     let Ok(lists) = Vec::from_array(alloc, lists) else {
         return Err(JoinFault::OutOfMemory);
     };
@@ -82,9 +90,7 @@ fn join_past(left: ManagedLists, right: PeerLists, readers: [Entries; 10]) -> Pa
     ensures peers { result.freed_peers ≡ right.freed.items }
     ensures notices { result.notices ≡ left.notices.items }
 {
-    let mut lists = readers;
-    lists[0] = left.entries;
-    lists[1] = right.entries;
+    let lists = with_sides(readers, left.entries, right.entries);
     PastHistory::join(lists, left.freed, right.freed, left.notices)
 }
 
