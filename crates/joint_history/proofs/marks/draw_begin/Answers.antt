@@ -9,3 +9,12 @@ mark_begin-requires-clause-may c = record {
   bare = c.requires.may;
   targets = λ m x. absurd x;
 }
+
+pub unreachable-requires : goal.unreachable-requires
+unreachable-requires c = (let w = c.in-Err.ensures.own c.requires.reserved c.requires.closed in cc)
+
+pub returns-clause-reserve : goal.returns-clause-reserve
+returns-clause-reserve c = c.in-Ok.ensures.reserve
+
+pub returns-clause-threads : goal.returns-clause-threads
+returns-clause-threads c = c.in-Ok.ensures.begun.threads

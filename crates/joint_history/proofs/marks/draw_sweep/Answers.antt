@@ -13,3 +13,12 @@ sweep-requires-clause-may c = record {
   bare = c.requires.may;
   targets = λ m x. absurd x;
 }
+
+pub unreachable-requires : goal.unreachable-requires
+unreachable-requires c = (let w = rw c.in-Err.ensures.err.0 at c.requires.open in cc)
+
+pub returns-clause-reserve : goal.returns-clause-reserve
+returns-clause-reserve c = c.sweep.ensures.reserve
+
+pub returns-clause-threads : goal.returns-clause-threads
+returns-clause-threads c = c.in-Ok.ensures.swept.threads

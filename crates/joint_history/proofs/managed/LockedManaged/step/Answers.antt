@@ -51,3 +51,24 @@ draw_step-made-requires-clause-fresh g c = turn_is_fresh_for c.args.caller c.sel
 
 pub draw_step-made-requires-clause-takes : goal.draw_step-made-requires-clause-takes
 draw_step-made-requires-clause-takes g c = subst (λ n. TakesManaged n c.args.caller) (sym c.self.invariant.3) c.requires.takes
+
+pub lend-requires-clause-order : goal.lend-requires-clause-order
+lend-requires-clause-order g c = (c.self.invariant.0 ∙ sym c.requires.order.0, c.requires.order.1 ∙ sym c.requires.order.0)
+
+pub lend-requires-clause-settled : goal.lend-requires-clause-settled
+lend-requires-clause-settled g c = (c.self.invariant.4, c.requires.settled)
+
+pub draw_step-made-requires-clause-event : goal.draw_step-made-requires-clause-event
+draw_step-made-requires-clause-event g c = c.requires.event
+
+pub draw_step-made-requires-clause-settled : goal.draw_step-made-requires-clause-settled
+draw_step-made-requires-clause-settled g c = c.lend.ensures.settled.0
+
+pub give_back-requires-clause-settled : goal.give_back-requires-clause-settled
+give_back-requires-clause-settled g c = (c.draw_step-made.ensures.settled, c.lend.ensures.settled.1)
+
+pub returns-clause-order : goal.returns-clause-order
+returns-clause-order g c = c.give_back.ensures.order.1 ∙ c.requires.order.0
+
+pub returns-clause-settled : goal.returns-clause-settled
+returns-clause-settled g c = c.give_back.ensures.settled.1
