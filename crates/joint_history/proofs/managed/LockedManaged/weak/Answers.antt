@@ -56,3 +56,30 @@ draw_weak-made-requires-clause-owner g c = owns_lent c.args.caller c.self.inside
 pub draw_weak-made-requires-clause-knows : goal.draw_weak-made-requires-clause-knows
 draw_weak-made-requires-clause-knows g c = knows_lent c.args.caller c.self.inside.seat.view c.args.mine.now.view c.lend.new.locked.view c.lend.new.mine.view
     (as_side c.self.inside.side) c.self.invariant.1 c.self.invariant.2 c.requires.may.stands.known c.lend.ensures.lent
+
+pub lend-requires-clause-order : goal.lend-requires-clause-order
+lend-requires-clause-order g c = (c.self.invariant.0 ∙ sym c.requires.order.0, c.requires.order.1 ∙ sym c.requires.order.0)
+
+pub lend-requires-clause-settled : goal.lend-requires-clause-settled
+lend-requires-clause-settled g c = (c.self.invariant.4, c.requires.settled)
+
+pub draw_weak-made-requires-clause-settled : goal.draw_weak-made-requires-clause-settled
+draw_weak-made-requires-clause-settled g c = c.lend.ensures.settled.0
+
+pub draw_weak-made-requires-clause-order : goal.draw_weak-made-requires-clause-order
+draw_weak-made-requires-clause-order g c = c.lend.ensures.order.0
+
+pub draw_weak-made-requires-clause-cell : goal.draw_weak-made-requires-clause-cell
+draw_weak-made-requires-clause-cell g c = c.requires.cell
+
+pub draw_weak-made-requires-clause-var : goal.draw_weak-made-requires-clause-var
+draw_weak-made-requires-clause-var g c = c.requires.var
+
+pub give_back-requires-clause-settled : goal.give_back-requires-clause-settled
+give_back-requires-clause-settled g c = (c.draw_weak-made.ensures.settled, c.lend.ensures.settled.1)
+
+pub returns-clause-order : goal.returns-clause-order
+returns-clause-order g c = c.give_back.ensures.order.1 ∙ c.requires.order.0
+
+pub returns-clause-settled : goal.returns-clause-settled
+returns-clause-settled g c = c.give_back.ensures.settled.1

@@ -63,3 +63,27 @@ returns-clause-reads g c =
     c.give_back.new.mine.view c.lend.new.locked c.draw_event-made.new.seat (seen c.self.inside.side) (seen c.draw_event-made.new.side) c.draw_event-made.result
     c.requires.pass.0 c.requires.pass.1 c.self.invariant.1 (omega (arith, c.ranges.index.fits)) c.self.invariant.2 c.requires.may
     c.lend.ensures.lent (by_event c.draw_event-made.result _ _ _ _ _ _ c.draw_event-made.ensures.drew) c.draw_event-made.ensures.err c.give_back.ensures.returned).reads
+
+pub lend-requires-clause-order : goal.lend-requires-clause-order
+lend-requires-clause-order g c = (c.self.invariant.0 ∙ sym c.requires.order.0, c.requires.order.1 ∙ sym c.requires.order.0)
+
+pub lend-requires-clause-settled : goal.lend-requires-clause-settled
+lend-requires-clause-settled g c = (c.self.invariant.5, c.requires.settled)
+
+pub draw_event-made-requires-clause-settled : goal.draw_event-made-requires-clause-settled
+draw_event-made-requires-clause-settled g c = c.lend.ensures.settled.0
+
+pub draw_event-made-requires-clause-call : goal.draw_event-made-requires-clause-call
+draw_event-made-requires-clause-call g c = c.requires.event
+
+pub give_back-requires-clause-settled : goal.give_back-requires-clause-settled
+give_back-requires-clause-settled g c = (c.draw_event-made.ensures.settled, c.lend.ensures.settled.1)
+
+pub returns-clause-order : goal.returns-clause-order
+returns-clause-order g c = c.give_back.ensures.order.1 ∙ c.requires.order.0
+
+pub returns-clause-settled : goal.returns-clause-settled
+returns-clause-settled g c = c.give_back.ensures.settled.1
+
+pub returns-clause-release : goal.returns-clause-release
+returns-clause-release g c = c.draw_event-made.ensures.release
