@@ -61,3 +61,21 @@ pub returns-clause-makes : goal.returns-clause-makes
 returns-clause-makes g c = sweep_made c.self.inside.seat.view c.args.mine.now.view c.lend.new.mine.view c.give_back.new.locked.view c.give_back.new.mine.view c.args.order.now
     c.lend.new.locked c.draw_sweep-out.new.seat (seen c.self.inside.side) (seen c.draw_sweep-out.new.side) c.args.index c.requires.pass c.self.invariant.1
     (omega (arith, c.ranges.index.fits)) c.self.invariant.2 c.lend.ensures.lent c.give_back.ensures.returned c.draw_sweep-out.result.0 c.draw_sweep-out.result.1 c.draw_sweep-out.ensures.drew
+
+pub lend-requires-clause-order : goal.lend-requires-clause-order
+lend-requires-clause-order g c = (c.self.invariant.0 ∙ sym c.requires.order.0, c.requires.order.1 ∙ sym c.requires.order.0)
+
+pub lend-requires-clause-settled : goal.lend-requires-clause-settled
+lend-requires-clause-settled g c = (c.self.invariant.5, c.requires.settled)
+
+pub draw_sweep-out-requires-clause-settled : goal.draw_sweep-out-requires-clause-settled
+draw_sweep-out-requires-clause-settled g c = c.lend.ensures.settled.0
+
+pub give_back-requires-clause-settled : goal.give_back-requires-clause-settled
+give_back-requires-clause-settled g c = (c.draw_sweep-out.ensures.settled, c.lend.ensures.settled.1)
+
+pub returns-clause-order : goal.returns-clause-order
+returns-clause-order g c = c.give_back.ensures.order.1 ∙ c.requires.order.0
+
+pub returns-clause-settled : goal.returns-clause-settled
+returns-clause-settled g c = c.give_back.ensures.settled.1
