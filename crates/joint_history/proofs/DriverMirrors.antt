@@ -25,7 +25,7 @@ use Rattle.peer_mirror.specs.Carried.{AreBridgeNodes, AreHandlesStrong, carried_
 use Rattle.order_table.specs.declared.views.View.{View}
 use Rattle.known_laws.specs.Known.{given}
 use Rattle.known_laws.proofs.Unpinned.{turn_same}
-use Rattle.order_table.specs.Views.{OrderId, Shown, known, Owns}
+use Rattle.order_table.specs.Views.{OrderId, Shown, Owns}
 use Rattle.xref_list.specs.Listing.{IsListing, Listing}
 use Rattle.joint_history.proofs.KnownViews.{same_view}
 use Rattle.joint_history.specs.Callers.{HoldsPass}

@@ -21,7 +21,7 @@ use Rattle.known_laws.proofs.Coming.{peer_reads_none}
 use Rattle.known_laws.specs.Pasts.{HasSameDeadPart, end_of}
 use Rattle.known_laws.proofs.KnownPasts.{past_invariant_holds}
 use Rattle.order_table.specs.declared.views.View.{View}
-use Rattle.order_table.specs.Views.{OrderId, Shown, known, Owns}
+use Rattle.order_table.specs.Views.{OrderId, Shown, Owns}
 use Rattle.joint_history.proofs.KnownViews.{same_view}
 use Rattle.joint_history.specs.Callers.{HoldsPass}
 use Rattle.joint_history.specs.Driven.{DriverMakes, DriverStands}
