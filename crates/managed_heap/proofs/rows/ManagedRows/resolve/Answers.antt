@@ -34,7 +34,8 @@ settle-candidates-requires-clause-shut c =
     no_pins c.self.inside.notices c.self.inside.cycle c.self.inside.cycles c.self.inside.contracted in
     let kept : ManagedInvariant s.managed = subst (λ (z : ManagedReplay). ManagedInvariant z.managed) (sym c.self.view_is) c.requires.kept.1.managed in
     let opened = c.close-open.ensures.opened in
-    shut-open c.self.inside.heap c.self.inside.notices.spare s.managed c.close-open.result refl c.self.invariant.2 (c.self.invariant.3 c.close-open.result opened) (kept.dead c.close-open.result opened)
+    shut-open c.self.inside.heap c.self.inside.notices.spare s.managed c.close-open.result refl c.self.invariant.2 (c.self.invariant.3
+    c.close-open.result opened) (kept.dead c.close-open.result opened)
 
 pub free-requires-clause-can : goal.free-requires-clause-can
 free-requires-clause-can c =
@@ -103,7 +104,8 @@ returns-clause-few c =
     let opened = c.close-open.ensures.opened in
     let cut = kept.dead c.close-open.result opened in
     let due = c.self.invariant.3 c.close-open.result opened in
-    let few = rows-few c.self.inside.heap.heap (managed_numbers c.settle-candidates.result.1.items) (subst Rises (sym c.settle-candidates.ensures.freed) (Rises-filter _ c.close-open.result.dead due.rise))
+    let few = rows-few c.self.inside.heap.heap (managed_numbers c.settle-candidates.result.1.items) (subst Rises (sym
+    c.settle-candidates.ensures.freed) (Rises-filter _ c.close-open.result.dead due.rise))
     (λ m k. cut.live m ((unmarked_of-exact c.settle-candidates.new.heap.marks c.close-open.result.dead m).0 (subst (λ xs. Contains xs m) c.settle-candidates.ensures.freed k)).0) in
     omega (arith, few, length-map c.settle-candidates.result.1.items (λ m. m.0), c.made.ensures.made, c.made.ensures.most)
 
@@ -136,7 +138,8 @@ returns-clause-resolution c =
       opened = opened;
       resolution = resolution-is c.self.inside.heap c.settle-candidates.new.heap c.self.inside.notices.spare s.managed open'
           c.args.alive.now.values freed refl c.self.invariant.2 due c.settle-candidates.ensures.marks c.settle-candidates.ensures.freed;
-      state = rw c.close-open.ensures.closed (resolved-is c.self.inside.heap.heap c.free.new.self.heap c.self.inside.headers.items after c.self.inside.registry c.forget_pairs.new.registry c.self.inside.cells
+      state = rw c.close-open.ensures.closed (resolved-is c.self.inside.heap.heap c.free.new.self.heap c.self.inside.headers.items after
+          c.self.inside.registry c.forget_pairs.new.registry c.self.inside.cells
           no_pins c.self.inside.notices c.notify.new.notices c.self.inside.cycle c.self.inside.cycles c.self.inside.contracted answers freed heap-is
           (c.renew.ensures.kinds ∙ c.forget_pairs.ensures.kinds) handles (rw c.deref-4.ensures.value at c.forget_pairs.ensures.pairs)
           (queued ∙ ap (λ z. managed_numbers c.self.inside.notices.queued ++ z) same) c.notify.ensures.taken);

@@ -158,7 +158,8 @@ returns-clause-snapshot c =
     ∙ (ap (λ z. with_freed c.prepare-found.new.heap.heap (managed_numbers z)) c.deref-2.ensures.value ∙ ap (λ (v : HeapRows). with_freed v.heap freed) c.prepare-found.ensures.rest) in
     let next = rows_of c.mark_slots_again.new.heap.heap i.headers.items i.registry i.cells no_pins c.widen.new.self
     (Some record { number = i.cycles + 1; candidates = found.candidates.items; dead = managed_numbers found.dead.items }) (i.cycles + 1) false in
-    rw c.replace.ensures.after (subst (λ z. TakesSnapshot z next (pins_given c.args.pins.now.at) freed (i.cycles + 1) (c.made-2.result - c.live.result) c.len-count.result c.prepare-found.result.graph) c.self.view_is
+    rw c.replace.ensures.after (subst (λ z. TakesSnapshot z next (pins_given c.args.pins.now.at) freed (i.cycles + 1) (c.made-2.result -
+    c.live.result) c.len-count.result c.prepare-found.result.graph) c.self.view_is
     (takes-prepared i.heap.heap c.mark_slots_again.new.heap.heap i.headers.items i.registry i.cells (pins_given c.args.pins.now.at) i.notices c.widen.new.self i.cycle _ i.cycles
     i.contracted c.prepare-found.new.heap freed found.candidates.items found.dead.items (c.made-2.result - c.live.result) c.len-count.result c.prepare-found.result.graph
     closed prepares (ap (λ (v : HeapRows). v.heap) c.mark_slots_again.ensures.rest ∙ heap-is) c.widen.ensures.queued c.widen.ensures.taken refl
