@@ -80,7 +80,8 @@ pub(crate) fn bridge_rows(
     Ok(rows)
 }
 
-fn is_bridge(heap: &PlainHeap, held: &[Option<u32>], m: u32) -> bool
+/// Whether the row is live and holds a handle.
+pub(crate) fn is_bridge(heap: &PlainHeap, held: &[Option<u32>], m: u32) -> bool
     ensures { IsTrue result ↔ IsBridgeRow heap.now held.now m }
 {
     heap.is_live(m) && handle_at(held, m).is_some()
