@@ -8,9 +8,10 @@ ghost use Rattle.joint_machine.specs.Histories.{peer_numbers};
 ghost use Rattle.joint_machine.specs.Managed.{Holds};
 ghost use Rattle.reachability.specs.Marks.{HasMark};
 ghost use Rattle.joint_marking.specs.Gathered.{Gains};
+ghost use Rattle.joint_marking.specs.Nodes.{IsLiveRoot};
 ghost use Rattle.joint_marking.specs.Owned.{IsOwned};
 ghost use Rattle.joint_replay.specs.Plain.{issued_as};
-ghost use Rattle.joint_replay.specs.Graphs.{parts_graph, IsRooted, IsRootedIn, IsRootHandle};
+ghost use Rattle.joint_replay.specs.Graphs.{clean_graph, parts_graph, IsRooted, IsRootedIn, IsRootHandle};
 
 use crate::both::BothParts;
 use crate::managed::ManagedPart;
@@ -32,10 +33,7 @@ pub(crate) fn dead_peers(
         ↔ (IsLive peers.now.heap p × (IsReachedIn (parts_graph managed.now peers.now removed.now) (peer p) → ⊥))) }
 {
     let objects = managed.roots(alloc)?;
-    let owned = owned_handles(alloc, managed, peers.handles())?;
-    let mut roots = named_roots(alloc, peers.heap())?;
-    push_rooted(peers, removed, &owned, &mut roots)?;
-    let roots = as_peers(alloc, &roots)?;
+    let roots = peer_roots(alloc, managed, peers, removed)?;
     let both = BothParts {
         managed,
         peers,
@@ -43,6 +41,23 @@ pub(crate) fn dead_peers(
     };
     let dead = unreached_peers(alloc, &both, &objects, &roots)?;
     marks_of(alloc, &dead, peers.heap().made())
+}
+
+// The live peers that are joint roots: those that a variable or a static names, and those of handles that are roots by
+// themselves.
+fn peer_roots(
+    alloc: Global,
+    managed: &ManagedPart,
+    peers: &PeerPart,
+    removed: &[bool],
+) -> Result<Vec<PNum>, AllocError>
+    ensures { IfOk result (λ v. (k : ℕ) → Contains (peer_numbers v.items) k
+        ↔ IsLiveRoot (clean_graph (parts_graph managed.now peers.now removed.now)) (peer k)) }
+{
+    let owned = owned_handles(alloc, managed, peers.handles())?;
+    let mut roots = named_roots(alloc, peers.heap())?;
+    push_rooted(peers, removed, &owned, &mut roots)?;
+    as_peers(alloc, &roots)
 }
 
 // Numbers as those of peers.
