@@ -1,6 +1,7 @@
 // What the restores of the open cycle's candidates have answered.
 
-ghost use Rattle.std.specs.Prelude.{◌≡◌, ◌+◌, ◌<◌, ◌↔◌, IsTrue, IfOk, All, replicate, slice_get, None};
+ghost use Rattle.std.specs.Prelude.{◌≡◌, ◌+◌, ◌<◌, ◌↔◌, IsTrue, IfOk, All, replicate, slice_get, None, Some};
+ghost use Rattle.std.specs.Option.{option_map};
 ghost use Rattle.joint_machine.specs.Run.{answered_for};
 ghost use Rattle.joint_replay.specs.Answers.{said_as, answers_as, handle_in, put_where, renew_one, renewed_by, IsGiven};
 ghost use Rattle.joint_replay.specs.Answers.{IsMissing};
@@ -9,7 +10,7 @@ use crate::managed::ManagedPart;
 use std::alloc::{AllocError, Global};
 
 /// What a candidate's restore answered: alive, with the handle that it gave, or cleared.
-#[derive(Clone, Copy, PartialEq, Eq, Debug)]
+#[derive(Clone, Copy)]
 pub(crate) enum Said {
     Alive(u32),
     Cleared,
@@ -97,8 +98,19 @@ pub(crate) fn renew_each(candidates: &[u32], answers: &[Option<Said>], held: &mu
 fn given_at(answers: &[Option<Said>], i: usize) -> Option<u32>
     ensures { result ≡ handle_in (slice_get (answers_as answers.now) i) }
 {
-    match answers.get(i) {
-        Some(Some(Said::Alive(h))) => Some(*h),
+    if i < answers.len() {
+        given_by(answers[i])
+    } else {
+        None
+    }
+}
+
+// The handle that an answer gave.
+fn given_by(answer: Option<Said>) -> Option<u32>
+    ensures { result ≡ handle_in (Some (option_map said_as answer)) }
+{
+    match answer {
+        Some(Said::Alive(h)) => Some(h),
         _ => None,
     }
 }

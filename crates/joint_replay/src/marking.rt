@@ -105,9 +105,10 @@ pub(crate) fn is_marked(marks: &[bool], x: u32) -> bool
     ensures mark { IsTrue result ↔ HasMark marks.now x }
     ensures test { result ≡ marked marks.now x }
 {
-    match marks.get(x as usize) {
-        None => false,
-        Some(mark) => *mark,
+    if (x as usize) < marks.len() {
+        marks[x as usize]
+    } else {
+        false
     }
 }
 

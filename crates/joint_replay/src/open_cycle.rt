@@ -224,9 +224,22 @@ impl ManagedPart {
         ensures err { OnErr result (self.new ≡ self.old) }
     {
         let queued = self.holders(alloc, freed)?;
+        self.free_queuing(freed, &queued)
+    }
+
+    // Frees these rows, with a notice for each of the others. Answers `AllocError` where there is no memory; the part
+    // is then as before.
+    fn free_queuing(&mut self, freed: &[u32], queued: &[u32]) -> Result<(), AllocError>
+        requires { All (IsMade self.old.heap) freed.now }
+        ensures ok { OnOk result (self.new ≡ record self.old {
+          heap = with_freed self.old.heap freed.now;
+          notices = self.old.notices ++ queued.now;
+        }) }
+        ensures err { OnErr result (self.new ≡ self.old) }
+    {
         self.notices.reserve(queued.len())?;
         self.heap.free(freed)?;
-        put_all(&queued, &mut self.notices);
+        put_all(queued, &mut self.notices);
         Ok(())
     }
 

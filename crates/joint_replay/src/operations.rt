@@ -16,7 +16,7 @@ use crate::state::Verdict;
 use joint_model::{Act, Reply, Thread, VARS};
 
 /// How replies name the objects of a heap.
-#[derive(Clone, Copy, PartialEq, Eq, Debug)]
+#[derive(Clone, Copy)]
 pub(crate) enum Naming {
     Objects,
     Peers,

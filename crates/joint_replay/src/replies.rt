@@ -7,7 +7,7 @@ use joint_model::Reply;
 
 /// Why an event does nothing: the variable is empty, the object has no such field, nothing was read, there is no room,
 /// the target was freed, the cell or the name has a value, it has none, or the object holds no handle.
-#[derive(Clone, Copy, PartialEq, Eq, Debug)]
+#[derive(Clone, Copy)]
 pub(crate) enum Refusal {
     Empty,
     Range,
