@@ -5,7 +5,7 @@ ghost use Rattle.std.specs.Prelude.{OnOk, OnErr, MatchResult, IfSome, length, ta
 ghost use Rattle.std.specs.Option.{ForSome};
 ghost use Rattle.joint_machine.specs.Heaps.{Heap, MOST, IsMade, IsLive, is_freed, answer, slot, fields_of, is_full};
 ghost use Rattle.joint_machine.specs.Heaps.{opening_heap, with_object, with_var, with_static, with_field, with_freed};
-ghost use Rattle.joint_machine.specs.Heaps.{field_set};
+ghost use Rattle.joint_machine.specs.Heaps.{field_set, next_number};
 ghost use Rattle.heap_rules.specs.Tidy.{live_fields};
 ghost use Rattle.joint_replay.specs.Plain.{refusal_reply, is_live, kept_target, cleaned, Lowers};
 
@@ -233,6 +233,21 @@ impl PlainHeap {
         self.flags.reserve(1)?;
         self.fields.push_reserved(row);
         self.flags.push_reserved(true);
+        Ok(())
+    }
+
+    /// Makes an object with so many empty fields, which the variable at a place names. Answers `AllocError` where there
+    /// is no memory; the heap is then as before.
+    pub(crate) fn add_named(&mut self, place: usize, fields: u8) -> Result<(), AllocError>
+        requires place { place < VARS }
+        requires few { length self.old.fields < MOST }
+        ensures ok { OnOk result (self.new ≡ with_var
+            (with_object self.old fields) place (Some (next_number self.old))) }
+        ensures err { OnErr result (self.new ≡ self.old) }
+    {
+        let x = self.made() + 1;
+        self.add_object(fields)?;
+        self.set_var(place, Some(x));
         Ok(())
     }
 

@@ -74,11 +74,9 @@ impl ManagedPart {
         ensures ok { OnOk result (self.new ≡ with_row self.old v kind fields h) }
         ensures err { OnErr result (self.new ≡ self.old) }
     {
-        let x = self.heap.made() + 1;
         self.kinds.reserve(1)?;
         self.held.reserve(1)?;
-        self.heap.add_object(fields)?;
-        self.heap.set_var(v, Some(x));
+        self.heap.add_named(v, fields)?;
         self.kinds.push_reserved(kind);
         self.held.push_reserved(h);
         Ok(())

@@ -264,9 +264,8 @@ impl PeerPart {
             return Ok(Verdict::Unlawful);
         }
         self.sorts.reserve(1)?;
-        self.heap.add_object(fields)?;
+        self.heap.add_named(v, fields)?;
         self.sorts.push_reserved(Sort::Framework);
-        self.heap.set_var(v, Some(p));
         Ok(Verdict::Lawful)
     }
 
