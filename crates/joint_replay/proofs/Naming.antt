@@ -1,7 +1,7 @@
 -- Stretches of a list, read place by place.
-use Rattle.std.proofs.Common.{◌≡◌, ℕ, zero, suc, ◌+◌, List, [], ◌∷◌, ◌++◌, length, get_or, map, take, drop, ◌<◌, Some, sym, ap, subst, ◌∙◌, arith}
+use Rattle.std.proofs.Common.{◌≡◌, ℕ, zero, suc, ◌+◌, List, [], ◌∷◌, ◌++◌, length, get_or, map, take, drop, ◌<◌, ◌≤◌, Some, None, sym, ap, subst, ◌∙◌, arith}
 use Rattle.std.specs.Prelude.{slice_get}
-use Rattle.std.proofs.lemmas.List.{map-append}
+use Rattle.std.proofs.lemmas.List.{length-drop, length-map, length-take, map-append}
 use Rattle.std.proofs.lemmas.Option.{slice_get-get_or}
 use Rattle.joint_machine.proofs.Members.{take-next}
 
@@ -22,6 +22,18 @@ stretch-next f list first i place x now next e at so n =
 pub stretch-read : {X : Type 0} (f : X → ℕ) (list : List X) (first count i : ℕ) (now : List ℕ) → i ≡ count → length now ≡ i
     → now ≡ map f (take i (drop first list)) → (now ≡ map f (take count (drop first list))) × (length now ≡ count)
 stretch-read f list first count i now e l r = (subst (λ n. now ≡ map f (take n (drop first list))) e r, l ∙ e)
+
+-- nothing is read behind the last
+past-from : {X : Type 0} (xs : List X) (i : ℕ) → slice_get xs i ≡ None → length xs ≤ i
+past-from [] i e = omega arith
+past-from (x ∷ xs) zero e = cc
+past-from (x ∷ xs) (suc i) e = omega (arith, past-from xs i e)
+
+-- a place that isn't there is missing
+pub stretch-short : {X : Type 0} (f : X → ℕ) (list : List X) (first count i place : ℕ) → place ≡ first + i → slice_get list place ≡ None → i < count
+    → length (map f (take count (drop first list))) ≡ count → ⊥
+stretch-short f list first count i place e n low whole =
+    omega (arith, past-from list place n, length-map (take count (drop first list)) f, length-take count (drop first list), length-drop first list)
 
 -- one number more was put
 pub map-next : {X : Type 0} (f : X → ℕ) (xs : List ℕ) (i : ℕ) (x : X) (now next : List X) → map f now ≡ take i xs
