@@ -99,5 +99,7 @@ pub fn check(alloc: Global, h: &History) -> Result<Finding, AllocError>
     ensures run { IfOk result (λ f. f ≡ Finding.Legal → HasSoundAndCompleteRun (as_named h.now)) }
 {
     let mut replay = Replay::new(alloc)?;
-    found_in(&mut replay, h)
+    let found = found_in(&mut replay, h);
+    drop(replay);
+    found
 }

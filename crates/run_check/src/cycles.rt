@@ -1,7 +1,7 @@
 // What is kept of the open cycle: its dead part, the components, which candidate is next, and what the restores have
 // answered.
 
-ghost use Rattle.std.specs.Prelude.{◌≡◌, ◌+◌, ◌<◌, ◌≤◌, [], ℕ, IfOk, IsSome, None, drop, length};
+ghost use Rattle.std.specs.Prelude.{◌≡◌, ◌+◌, ◌<◌, ◌≤◌, [], ℕ, IfOk, IsSome, None, Some, drop, length};
 ghost use Rattle.bridge_graph.specs.Handles.{handle_at, handles_of};
 ghost use Rattle.bridge_graph.specs.Parts.{IsPart};
 ghost use Rattle.run_check.specs.Cycles.{IsAtHandle};
@@ -38,6 +38,27 @@ fn bridge_node(graph: &DeadGraph, from: u32) -> u32
     graph.nodes()
 }
 
+/// Keeps the cycle that was opened.
+pub(crate) fn keep(cycle: &mut Option<OpenCycle>, opened: OpenCycle)
+    ensures { cycle.new ≡ Some opened }
+{
+    *cycle = Some(opened);
+}
+
+/// Keeps the components of an open cycle.
+pub(crate) fn list(comps: &mut Option<Components>, listed: Components)
+    ensures { comps.new ≡ Some listed }
+{
+    *comps = Some(listed);
+}
+
+/// Lets go of the cycle that was closed.
+pub(crate) fn forget(cycle: &mut Option<OpenCycle>)
+    ensures { cycle.new ≡ None }
+{
+    *cycle = None;
+}
+
 impl OpenCycle {
     /// A cycle that was just opened. Answers `AllocError` where there is no memory for its answers.
     pub(crate) fn new(
@@ -54,16 +75,23 @@ impl OpenCycle {
         ensures alive { IfOk result (λ o. o.alive ≡ record { values = []; room = candidates }) }
         ensures first { IfOk result (λ o. IsAtHandle o.graph.nodes o.place 0) }
     {
-        let alive = Alive::new(alloc, candidates)?;
-        let place = bridge_node(&graph, 0);
-        Ok(OpenCycle {
-            cycle,
-            candidates,
-            graph,
-            comps: None,
-            alive,
-            place,
-        })
+        match Alive::new(alloc, candidates) {
+            Err(error) => {
+                drop(graph);
+                Err(error)
+            }
+            Ok(alive) => {
+                let place = bridge_node(&graph, 0);
+                Ok(OpenCycle {
+                    cycle,
+                    candidates,
+                    graph,
+                    comps: None,
+                    alive,
+                    place,
+                })
+            }
+        }
     }
 
     /// The handle of the candidate that is next.

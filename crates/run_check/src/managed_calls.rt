@@ -9,7 +9,7 @@ ghost use Rattle.run_check.specs.Cells.{targets_after};
 ghost use Rattle.run_check.specs.Judging.{AnswersRightly, IsReady, IsStepped};
 ghost use Rattle.run_check.specs.Lists.{StandsInList};
 
-use crate::cycles::OpenCycle;
+use crate::cycles::{OpenCycle, forget, keep, list};
 use crate::replays::Replay;
 use crate::replies::{freed_as_named, is_same, taken_as_named};
 use component_pass::contract;
@@ -128,7 +128,8 @@ impl Replay {
         let span = opened.freed;
         let candidates = opened.candidates;
         self.readers.snapped();
-        self.cycle = Some(OpenCycle::new(self.alloc, cycle, candidates, opened.graph)?);
+        let open = OpenCycle::new(self.alloc, cycle, candidates, opened.graph)?;
+        keep(&mut self.cycle, open);
         Ok(is_same(&made.reply, &Reply::Snapped(candidates, span)) && self.frees_as_named(h, span))
     }
 
@@ -138,7 +139,7 @@ impl Replay {
             → self.new ≡ record self.old { cycle = Some (record o { comps = Some comps }) } }
     {
         if let Some(open) = &mut self.cycle {
-            open.comps = Some(comps);
+            list(&mut open.comps, comps);
         }
     }
 
@@ -177,7 +178,7 @@ impl Replay {
         let out = self
             .managed
             .resolve(&mut self.draw, made.index, cites, &open.alive);
-        self.cycle = None;
+        forget(&mut self.cycle);
         is_same(&made.reply, &Reply::Freed(out.freed)) && self.frees_as_named(h, out.freed)
     }
 
@@ -204,7 +205,7 @@ impl Replay {
             return false;
         }
         self.managed.abandon(&mut self.draw, made.index);
-        self.cycle = None;
+        forget(&mut self.cycle);
         is_same(&made.reply, &Reply::Ok)
     }
 }

@@ -65,15 +65,22 @@ impl Replay {
     pub(crate) fn new(alloc: Global) -> Result<Replay, AllocError>
         ensures { IfOk result (λ r. Follows [] r) }
     {
-        Ok(Replay {
-            alloc,
-            managed: ManagedSide::new(alloc, 8, Holding::Last)?,
-            peers: PeerSide::new(alloc, 8, Holding::Last)?,
-            draw: Recorder::new(),
-            turns: Turns::new(),
-            readers: Readers::new(alloc),
-            cycle: None,
-        })
+        let managed = ManagedSide::new(alloc, 8, Holding::Last)?;
+        match PeerSide::new(alloc, 8, Holding::Last) {
+            Err(error) => {
+                drop(managed);
+                Err(error)
+            }
+            Ok(peers) => Ok(Replay {
+                alloc,
+                managed,
+                peers,
+                draw: Recorder::new(),
+                turns: Turns::new(),
+                readers: Readers::new(alloc),
+                cycle: None,
+            }),
+        }
     }
 
     // What the sides have of the open cycle.

@@ -22,7 +22,8 @@ returns c =
     let may = c.requires.ready.1 in
     let shape : m ≡ abandoning k m.index m.reply = driver_made (state_of c.requires.ready.0) m (op.Abandon k) None c.requires.op (λ d. d) (λ x. x) may.next.turn may.next.cites in
     let after : Replay = record old { managed = c.abandon.new.self; draw = c.abandon.new.draw; cycle = None } in
-    subst (λ z. AnswersRightly h z old after c.is_same.result) (sym shape) (answers_rightly h (abandoning k m.index m.reply) old after c.is_same.result refl tt (λ past w.
+    subst (λ x. AnswersRightly h m old (record old { managed = c.abandon.new.self; draw = c.abandon.new.draw; cycle = x }) c.is_same.result) (sym c.forget.ensures)
+    (subst (λ z. AnswersRightly h z old after c.is_same.result) (sym shape) (answers_rightly h (abandoning k m.index m.reply) old after c.is_same.result refl tt (λ past w.
     let adds = c.abandon.ensures.abandons (abandon_open h past old k m.index m.reply w c.in-Some.open c.in-Some.is).cycle (abandon_side h past old k m.index m.reply w c.in-Some.open c.in-Some.is) in
     abandon_judges h past old k m.index m.reply w c.in-Some.open c.in-Some.is c.if-open-cycle.false
-    c.abandon.new.draw c.abandon.new.self adds c.is_same.result c.is_same.ensures.0 c.is_same.ensures.1))
+    c.abandon.new.draw c.abandon.new.self adds c.is_same.result c.is_same.ensures.0 c.is_same.ensures.1)))

@@ -29,10 +29,11 @@ returns-then-is_same c =
     let after : Replay = record old { managed = c.resolve-out.new.self; draw = c.resolve-out.new.draw; cycle = None } in
     let shape : m ≡ resolving c.args.cycle m.index m.reply m.cites = driver_made (state_of c.requires.ready.0) m
     (op.Resolve c.args.cycle) m.cites c.requires.op (λ d. d) (λ x. refl) may.next.turn may.next.cites in
-    subst (λ z. AnswersRightly h z old after b) (sym shape) (answers_rightly h (resolving c.args.cycle m.index m.reply m.cites) old after b refl tt (λ past w.
+    subst (λ x. AnswersRightly h m old (record old { managed = c.resolve-out.new.self; draw = c.resolve-out.new.draw; cycle = x }) b) (sym c.forget.ensures)
+    (subst (λ z. AnswersRightly h z old after b) (sym shape) (answers_rightly h (resolving c.args.cycle m.index m.reply m.cites) old after b refl tt (λ past w.
     resolve_answers h past old c.args.cycle m.index m.reply m.cites w c.in-Some-Some.open c.in-Some-Some.is-0
     c.resolve-out.new.draw c.resolve-out.new.self t.cycle t.opened t.freed c.in-Some-Some.cites c.in-Some-Some.is-1 t.adds
-    c.resolve-out.result.freed t.span b (λ q. (c.is_same.ensures.0 c.if-is_same.true, c.frees_as_named.ensures.0 q)) (λ q s. c.frees_as_named.ensures.1 s)))
+    c.resolve-out.result.freed t.span b (λ q. (c.is_same.ensures.0 c.if-is_same.true, c.frees_as_named.ensures.0 q)) (λ q s. c.frees_as_named.ensures.1 s))))
 
 pub returns-else-is_same : goal.returns-else-is_same
 returns-else-is_same c =
@@ -45,7 +46,8 @@ returns-else-is_same c =
     let after : Replay = record old { managed = c.resolve-out.new.self; draw = c.resolve-out.new.draw; cycle = None } in
     let shape : m ≡ resolving c.args.cycle m.index m.reply m.cites = driver_made (state_of c.requires.ready.0) m
     (op.Resolve c.args.cycle) m.cites c.requires.op (λ d. d) (λ x. refl) may.next.turn may.next.cites in
-    subst (λ z. AnswersRightly h z old after b) (sym shape) (answers_rightly h (resolving c.args.cycle m.index m.reply m.cites) old after b refl tt (λ past w.
+    subst (λ x. AnswersRightly h m old (record old { managed = c.resolve-out.new.self; draw = c.resolve-out.new.draw; cycle = x }) b) (sym c.forget.ensures)
+    (subst (λ z. AnswersRightly h z old after b) (sym shape) (answers_rightly h (resolving c.args.cycle m.index m.reply m.cites) old after b refl tt (λ past w.
     resolve_answers h past old c.args.cycle m.index m.reply m.cites w c.in-Some-Some.open c.in-Some-Some.is-0
     c.resolve-out.new.draw c.resolve-out.new.self t.cycle t.opened t.freed c.in-Some-Some.cites c.in-Some-Some.is-1 t.adds
-    c.resolve-out.result.freed t.span b (λ q. absurd (true≢false (sym q ∙ c.if-is_same.false))) (λ q s. c.is_same.ensures.1 q)))
+    c.resolve-out.result.freed t.span b (λ q. absurd (true≢false (sym q ∙ c.if-is_same.false))) (λ q s. c.is_same.ensures.1 q))))

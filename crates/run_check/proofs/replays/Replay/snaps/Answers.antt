@@ -35,8 +35,8 @@ returns-then-is_same c =
     let may = c.requires.ready.1 in
     let t = c.in-Ok.ensures.snaps in
     let w = t.opens in
-    let o : Kept = c.in_ok-new.field-0 in
-    let n = c.in_ok-new.ensures in
+    let o : Kept = c.in_ok-open.open in
+    let n = c.in_ok-open.ensures in
     let b = c.frees_as_named.result in
     let draw = c.snap.new.gate in
     let managed = c.snap.new.self in
@@ -45,13 +45,14 @@ returns-then-is_same c =
     let opened : IsJustOpened o c.args.cycle (length w.candidates) c.in-Ok.opened.graph =
     record { cycle = n.cycle; candidates = n.candidates ∙ w.counted; graph = n.graph; part = n.part; alive = n.alive ∙ ap (λ (z : ℕ). record { values = []; room = z }) w.counted; first = n.first } in
     let shape : m ≡ snapping c.args.cycle m.index m.reply = driver_made (state_of c.requires.ready.0) m (op.Snap c.args.cycle) None c.requires.op (λ d. d) (λ x. x) may.next.turn may.next.cites in
-    subst (λ x. AnswersRightly h m old (record old { managed = managed; draw = draw; readers = x; cycle = Some o }) b) (sym c.snapped.ensures)
+    subst (λ x. AnswersRightly h m old (record old { managed = managed; draw = draw; readers = c.snapped.new.self; cycle = x }) b) (sym c.keep.ensures)
+    (subst (λ x. AnswersRightly h m old (record old { managed = managed; draw = draw; readers = x; cycle = Some o }) b) (sym c.snapped.ensures)
     (subst (λ z. AnswersRightly h z old after b) (sym shape) (answers_rightly h (snapping c.args.cycle m.index m.reply) old after b refl tt (λ past v.
     let first : t.gate.counter ≡ length past = ap (λ (r : Recorder). r.counter) (t.closes.1 ∙ c.give.ensures) ∙ v.sides.drawn in
     snap_answers h past old c.args.cycle m.index m.reply v (c.is_next.ensures.0 c.if-not-is_next.false) draw managed (pins_given t.pins) w.freed w.candidates w.dead w.adds.threads w.adds.draws.below
     (counted past t.gate draw (as_side old.managed) (as_side managed) _ _ first w.adds) given w.adds.goes
     c.in-Ok.opened.graph w.graph o opened c.in-Ok.opened.candidates w.counted c.in-Ok.opened.freed w.span b
-    (λ q. (c.is_same.ensures.0 c.if-is_same.true, c.frees_as_named.ensures.0 q)) (λ q s. c.frees_as_named.ensures.1 s))))
+    (λ q. (c.is_same.ensures.0 c.if-is_same.true, c.frees_as_named.ensures.0 q)) (λ q s. c.frees_as_named.ensures.1 s)))))
 
 pub returns-else-is_same : goal.returns-else-is_same
 returns-else-is_same c =
@@ -61,8 +62,8 @@ returns-else-is_same c =
     let may = c.requires.ready.1 in
     let t = c.in-Ok.ensures.snaps in
     let w = t.opens in
-    let o : Kept = c.in_ok-new.field-0 in
-    let n = c.in_ok-new.ensures in
+    let o : Kept = c.in_ok-open.open in
+    let n = c.in_ok-open.ensures in
     let b = c.is_same.result in
     let draw = c.snap.new.gate in
     let managed = c.snap.new.self in
@@ -71,10 +72,11 @@ returns-else-is_same c =
     let opened : IsJustOpened o c.args.cycle (length w.candidates) c.in-Ok.opened.graph =
     record { cycle = n.cycle; candidates = n.candidates ∙ w.counted; graph = n.graph; part = n.part; alive = n.alive ∙ ap (λ (z : ℕ). record { values = []; room = z }) w.counted; first = n.first } in
     let shape : m ≡ snapping c.args.cycle m.index m.reply = driver_made (state_of c.requires.ready.0) m (op.Snap c.args.cycle) None c.requires.op (λ d. d) (λ x. x) may.next.turn may.next.cites in
-    subst (λ x. AnswersRightly h m old (record old { managed = managed; draw = draw; readers = x; cycle = Some o }) b) (sym c.snapped.ensures)
+    subst (λ x. AnswersRightly h m old (record old { managed = managed; draw = draw; readers = c.snapped.new.self; cycle = x }) b) (sym c.keep.ensures)
+    (subst (λ x. AnswersRightly h m old (record old { managed = managed; draw = draw; readers = x; cycle = Some o }) b) (sym c.snapped.ensures)
     (subst (λ z. AnswersRightly h z old after b) (sym shape) (answers_rightly h (snapping c.args.cycle m.index m.reply) old after b refl tt (λ past v.
     let first : t.gate.counter ≡ length past = ap (λ (r : Recorder). r.counter) (t.closes.1 ∙ c.give.ensures) ∙ v.sides.drawn in
     snap_answers h past old c.args.cycle m.index m.reply v (c.is_next.ensures.0 c.if-not-is_next.false) draw managed (pins_given t.pins) w.freed w.candidates w.dead w.adds.threads w.adds.draws.below
     (counted past t.gate draw (as_side old.managed) (as_side managed) _ _ first w.adds) given w.adds.goes
     c.in-Ok.opened.graph w.graph o opened c.in-Ok.opened.candidates w.counted c.in-Ok.opened.freed w.span b
-    (λ q. absurd (true≢false (sym q ∙ c.if-is_same.false))) (λ q s. c.is_same.ensures.1 q))))
+    (λ q. absurd (true≢false (sym q ∙ c.if-is_same.false))) (λ q s. c.is_same.ensures.1 q)))))
