@@ -6,3 +6,4 @@ pub mod Lists
 pub mod Phases
 pub mod Going
 pub mod Noting
+pub mod Lines

@@ -2,7 +2,8 @@
 
 ghost use Rattle.std.specs.Prelude.{◌≤◌, ◌↔◌, IsTrue};
 ghost use Rattle.joint_machine.specs.Lines.{IsAdoptable, IsDriverAct, IsLine, IsManagedAct, IsNamed, IsOneEvent};
-ghost use Rattle.joint_machine.specs.Lines.{IsPeerAct, IsPlainObject, IsThread, IsVarOrNone};
+ghost use Rattle.joint_machine.specs.Lines.{IsPeerAct, IsPlainObject, IsThread, IsVar, IsVarOrNone};
+ghost use Rattle.run_check.specs.Lines.{IsCommonAct};
 
 use joint_model::{Act, Kind, Op, Thread, Var};
 
@@ -48,24 +49,42 @@ fn is_adoptable(kind: Kind, fields: u8) -> bool
     }
 }
 
+// Whether two variables are ones of a to h.
+#[inline(always)]
+fn are_vars(v: Var, w: Var) -> bool
+    ensures { IsTrue result ↔ (IsVar v × IsVar w) }
+{
+    v.0 < 8 && w.0 < 8
+}
+
+// Whether the operation is one that both heaps have, within its limits.
+#[inline(always)]
+fn is_common_line(act: Act) -> bool
+    ensures { IsTrue result ↔ IsCommonAct act }
+{
+    match act {
+        Act::Copy { v, w } => are_vars(v, w),
+        Act::Get { v, w, i: _ } => are_vars(v, w),
+        Act::Set { v, i: _, w } => v.0 < 8 && is_var_or_none(w),
+        Act::Drop { v } => v.0 < 8,
+        Act::Load { v, x } => v.0 < 8 && x.0 < 16,
+        Act::Store { x, v } => x.0 < 16 && is_var_or_none(v),
+        _ => false,
+    }
+}
+
 // Whether a managed thread's line can be that one event.
 fn is_managed_line(act: Act) -> bool
     ensures { IsTrue result ↔ (IsManagedAct act × IsOneEvent act) }
 {
     match act {
         Act::New { v, kind, fields } => v.0 < 8 && is_plain_object(kind, fields),
-        Act::Copy { v, w } => v.0 < 8 && w.0 < 8,
-        Act::Get { v, w, i: _ } => v.0 < 8 && w.0 < 8,
-        Act::Set { v, i: _, w } => v.0 < 8 && is_var_or_none(w),
-        Act::Drop { v } => v.0 < 8,
         Act::Take { v } => v.0 < 8,
         Act::Handle { v } => v.0 < 8,
-        Act::Load { v, x } => v.0 < 8 && x.0 < 16,
-        Act::Store { x, v } => x.0 < 16 && is_var_or_none(v),
         Act::Weak { k, v } => k.0 < 64 && v.0 < 8,
         Act::Read { k } => k.0 < 64,
         Act::Await { k } => k.0 < 64,
-        _ => false,
+        _ => is_common_line(act),
     }
 }
 
@@ -74,19 +93,13 @@ fn is_peer_line(act: Act) -> bool
     ensures { IsTrue result ↔ (IsPeerAct act × IsOneEvent act) }
 {
     match act {
-        Act::Copy { v, w } => v.0 < 8 && w.0 < 8,
-        Act::Get { v, w, i: _ } => v.0 < 8 && w.0 < 8,
-        Act::Set { v, i: _, w } => v.0 < 8 && is_var_or_none(w),
-        Act::Drop { v } => v.0 < 8,
-        Act::Load { v, x } => v.0 < 8 && x.0 < 16,
-        Act::Store { x, v } => x.0 < 16 && is_var_or_none(v),
         Act::NewPeer { v, fields } => v.0 < 8 && fields <= 16,
         Act::Global { g, v } => v.0 < 8 && g.0 < 64,
         Act::WGlobal { g, v } => v.0 < 8 && g.0 < 64,
         Act::WRead { v, g } => v.0 < 8 && g.0 < 64,
         Act::UnGlobal { g } => g.0 < 64,
         Act::Slice { n } => 1 <= n && n <= 65_535,
-        _ => false,
+        _ => is_common_line(act),
     }
 }
 
