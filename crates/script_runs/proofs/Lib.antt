@@ -10,6 +10,5 @@ pub mod Desked
 pub mod Last
 pub mod Runnable
 pub mod Ordered
-pub mod Results
 pub mod Opened
 pub mod Listing

@@ -45,20 +45,14 @@ pub record ListedSoFar (old new : Listing) (held now : Option (List ℕ)) (befor
 pub listed_none : (l : Listing) (held : Option (List ℕ)) (f : ℕ) (d : Progress) → HasNoSnap d → ListedSoFar l l held held f f d 0
 listed_none l held f d none = record { cycles = []; wrote = wrote_none l.cycles l.written held f; all = subst (λ es. AreSeen (lines_seen d.view) es []) (sym none) tt; few = omega arith }
 
-pub listed_more : {T E : Type 0} (r : Result T E) (t : T) (a b c : Listing) (held mid now : Option (List ℕ)) (f g h : ℕ) (d e : Progress) (n : ℕ) → r ≡ Ok t
-    → ListedSoFar a b held mid f g d n → Lists {T = T} {E = E} r b c mid now g h (λ t cycles. ListsLine d e cycles) → ListedSoFar a c held now f h e (n + 1)
-listed_more r t a b c held mid now f g h d e n is l m =
-    let line = ok_has r t (ListsLine d e m.cycles) is m.listed in
-    record {
-      cycles = l.cycles ++ m.cycles;
-      wrote = wrote_then a.cycles b.cycles c.cycles a.written b.written c.written held mid now f g h l.cycles m.cycles l.wrote m.wrote;
-      all = lists_more d e l.cycles m.cycles l.all line;
-      few = (let x = l.few in let y = line.few in omega (arith, x, y, length-append l.cycles m.cycles));
-    }
-  where
-    ok_has : {T E : Type 0} (r : Result T E) (t : T) (P : Type 0) → r ≡ Ok t → IfOk r (λ t. P) → P
-    ok_has (Ok u) t P is p = p
-    ok_has (Err e) t P is p = absurd (cc)
+pub listed_more : {a b c : Listing} {held mid now : Option (List ℕ)} {f g h : ℕ} {d e : Progress} {n : ℕ} → ListedSoFar a b held mid f g d n
+    → (cycles : List Listed) → Wrote b.cycles c.cycles b.written c.written mid now g h cycles → ListsLine d e cycles → ListedSoFar a c held now f h e (n + 1)
+listed_more {a} {b} {c} {held} {mid} {now} {f} {g} {h} {d} {e} l cycles wrote line = record {
+  cycles = l.cycles ++ cycles;
+  wrote = wrote_then a.cycles b.cycles c.cycles a.written b.written c.written held mid now f g h l.cycles cycles l.wrote wrote;
+  all = lists_more d e l.cycles cycles l.all line;
+  few = (let x = l.few in let y = line.few in omega (arith, x, y, length-append l.cycles cycles));
+}
 
 -- nothing was put, or a beginning of what was listed
 pub nothing_put : (held : Option (List ℕ)) → (cycles : List Listed) × AppendsPart held held (cycles_text cycles)

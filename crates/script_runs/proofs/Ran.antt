@@ -110,11 +110,3 @@ threads_end script h d callers can linked finished few ran all left owns none =
     (threads_hold_script script h d callers linked (λ line c. All-contains IsScriptLine script line can.each c) all owns none
     (by_lines script (HoldsItsLines script) callers ran (λ p r. r.holds)) left)
     (callers_waits_end h d callers linked all owns none (by_lines script (λ p. IsManagedThread p.thread → WaitsEnd (own p)) callers ran (λ p r. r.waits)))
-
--- so it is of the history that `finish` answers
-pub threads_give : {X : Type 0} (r : Result Finished X) (script : List (Thread × Act)) (d : Waiting) (callers : List Pass)
-    → CanRun script → HaveRun script callers → HasAll d callers → NoneIsLeft script d
-    → IfOk r IsLinked → IfOk r IsFinished → IfOk r (λ h. length h.entries < 2 ^ 64) → IfOk r (λ h. All (HasOwn h.entries) callers)
-    → IfOk r (λ h. (t : Thread) → IsThread t → StillWaits d t → made_by t h.entries ≡ []) → IfOk r (IsRunByThreads script)
-threads_give (Ok h) script d callers can ran all left linked finished few owns none = threads_end script h d callers can linked finished few ran all left owns none
-threads_give (Err x) script d callers can ran all left linked finished few owns none = tt

@@ -18,7 +18,7 @@ use Rattle.joint_history.specs.Callers.{KnowsNothing, Pass, last_index, own}
 use Rattle.joint_history.specs.Desks.{AreAll, Waiting, flat, has_thread, thread_of, waits, without_caller}
 use Rattle.joint_history.specs.Ending.{BeginsHistory, HasOwn, IsFinished, HasIdleDriver}
 use Rattle.joint_history.proofs.Desking.{thread_is}
-use Rattle.bridge_cycle.specs.Progress.{Progress, pass_of}
+use Rattle.bridge_cycle.specs.Progress.{Progress, line_of, pass_of}
 use Rattle.script_laws.specs.Holding.{opening_standing, numbered_from}
 use Rattle.run_laws.specs.Final.{IsRunInOrder}
 use Rattle.run_laws.specs.Serial.{AreOthers}
@@ -27,8 +27,13 @@ use Rattle.run_laws.proofs.Finals.{held_in_order_is_run}
 use Rattle.run_laws.proofs.InOrder.{drivers_add, nothing_is_run}
 use Rattle.run_laws.proofs.InOrderEnds.{runs_hold_script}
 use Rattle.script_runs.specs.Running.{AreUpTo, DrivesLeft, HasCome, HasComeThrough, RunsOn, last_after}
+use Rattle.script_runs.specs.Stations.{AreNewCallers, ComesTo}
 use Rattle.script_runs.proofs.Desked.{has_every}
 use Rattle.script_runs.proofs.Owned.{own_nothing}
+
+pub if_ok_by : {T E : Type 0} {P Q : T → Type 0} (r : Result T E) → IfOk r P → ((t : T) → P t → Q t) → IfOk r Q
+if_ok_by (Ok t) p f = f t p
+if_ok_by (Err e) p f = tt
 
 -- before the first line
 pub come_first : (d : Progress) (others : List Pass) → KnowsNothing d.view → Idle ≡ d.phase → 0 ≡ d.candidates
@@ -62,6 +67,40 @@ come_through script last d others h oth driven = record {
   driven = driven;
 }
 
+-- what the run of all lines keeps
+pub record ComeSoFar (script : List (Thread × Act)) (i number last : ℕ) (d : Progress) (others : List Pass) : Type 0 where
+  pub counted : number ≡ i
+  pub within : last ≤ number
+  pub others_are : AreOthers others
+  pub up_to : AreUpTo number others
+  pub driven : line_of d ≤ last
+  pub come : HasCome (numbered_from 1 (take i script)) last d others
+
+pub first_of_new : (script : List (Thread × Act)) (d : Progress) (others : List Pass) → AreNewCallers d others → ComeSoFar script 0 0 0 d others
+first_of_new script d others new = record {
+  counted = refl;
+  within = omega arith;
+  others_are = new.others_are;
+  up_to = first_up_to 0 others new.nothing;
+  driven = subst (λ es. last_index es ≤ 0) (sym (own_nothing (pass_of d) new.driver.nothing)) (omega arith);
+  come = come_first d others new.driver.nothing (sym new.driver.phase) (sym new.driver.candidates) new.nothing;
+}
+
+pub comes_further : (script : List (Thread × Act)) (i number last now : ℕ) (d f : Progress) (others others' : List Pass) (line : Thread × Act) → slice_get script i ≡ Some line
+    → ComeSoFar script i number last d others → ComesTo (number + 1) last now line d f others others' → ComeSoFar script (i + 1) (number + 1) now f others'
+comes_further script i number last now d f others others' line e k w =
+    let same : number + 1 ≡ i + 1 = ap (λ n. n + 1) k.counted in
+    let runs = subst (λ n. RunsOn n line.0 line.1 d f others others') same w.runs in
+    record {
+      counted = same;
+      within = w.within;
+      others_are = w.others_are;
+      up_to = w.up_to;
+      driven = w.driven;
+      come = subst (λ m. HasCome (numbered_from 1 (take (i + 1) script)) m f others') (sym (w.last_is ∙ ap (λ n. last_after last n line.0) same))
+          (come_on script i last d f others others' line e runs k.come);
+    }
+
 -- whoever isn't the driver's caller is idle, and so all are once the driver's is
 pub all_idle : (others : List Pass) (p : Pass) → AreOthers others → HasIdleDriver p → All HasIdleDriver (others ++ p ∷ [])
 all_idle others p oth idle = All-members HasIdleDriver (others ++ p ∷ []) (λ q c. ⊎_elim
@@ -88,14 +127,6 @@ run_ends script h last d f others p linked finished few come k is owns begins =
     (drivers_add (pass_of d) (pass_of f) k.entries refl refl k.made) (k.left c.standing c.stands c.line) c.run
     (subst (λ q. All (HasOwn h.entries) (others ++ q ∷ [])) is owns)
     (subst (BeginsHistory h.entries) is (All-contains (BeginsHistory h.entries) (others ++ p ∷ []) p begins (Contains-append_right others (p ∷ []) p (Contains-here p [])))))
-
--- so it is of what `finish` answers
-pub run_gives : {E : Type 0} (r : Result Finished E) (script : List (Thread × Act)) (all : List Pass)
-    → ((h : Finished) → IsLinked h → IsFinished h → length h.entries < 2 ^ 64 → All (HasOwn h.entries) all → All (BeginsHistory h.entries) all → IsRunInOrder script h)
-    → IfOk r (λ h. IsLinked h) → IfOk r (λ h. IsFinished h) → IfOk r (λ h. length h.entries < 2 ^ 64)
-    → IfOk r (λ h. All (HasOwn h.entries) all) → IfOk r (λ h. All (BeginsHistory h.entries) all) → IfOk r (IsRunInOrder script)
-run_gives (Ok h) script all ran linked finished few owns begins = ran h linked finished few owns begins
-run_gives (Err e) script all ran linked finished few owns begins = tt
 
 -- at the desk the callers from a place on are there
 abbrev pub AreThereFrom : ℕ → Waiting → Type 0

@@ -1,5 +1,5 @@
 -- One line more in a run line after line, of the driver or of another.
-use Rattle.std.proofs.Common.{◌≡◌, ◌⊎◌, inl, inr, ⊎_elim, ℕ, ◌+◌, ◌≤◌, List, [], ◌∷◌, ◌++◌, Some, refl, sym, ◌∙◌, ap, subst}
+use Rattle.std.proofs.Common.{◌≡◌, ◌⊎◌, inl, inr, ⊎_elim, ℕ, ◌+◌, ◌≤◌, false, List, [], ◌∷◌, ◌++◌, Some, refl, sym, ◌∙◌, ap, subst, arith}
 use Rattle.std.specs.Prelude.{if◌then◌else◌, slice_get, slice_set}
 use Rattle.std.proofs.lemmas.List.{length-set}
 use Rattle.std.proofs.lemmas.Option.{slice_get_within}
@@ -9,6 +9,7 @@ use Rattle.joint_machine.specs.declared.lines.Act.{Act}
 use Rattle.joint_machine.specs.Control.{caller_place}
 use Rattle.joint_machine.specs.HistoryLines.{caller_line}
 use Rattle.joint_machine.specs.Lines.{IsLine, IsThread}
+use Rattle.joint_machine.specs.PeerReplay.{is_thread}
 use Rattle.joint_machine.proofs.Joining.{same_or_not, slice_get-set_same, slice_get-set_other}
 use Rattle.order_table.specs.Facts.{line_entries}
 use Rattle.joint_history.specs.Callers.{Hears, Pass, Tells, last_index, own}
@@ -16,11 +17,12 @@ use Rattle.view_laws.specs.Knowing.{IsDrawnView}
 use Rattle.joint_history.specs.Desks.{thread_of}
 use Rattle.joint_history.specs.Operations.{IsOwnThread}
 use Rattle.joint_history.proofs.Ended.{thread_at_place}
-use Rattle.bridge_cycle.specs.Progress.{Progress, pass_of}
+use Rattle.bridge_cycle.specs.Progress.{Progress, line_of, pass_of}
 use Rattle.script_laws.specs.Holding.{Standing, standing_after, AreLine}
 use Rattle.run_laws.specs.Serial.{AreOthers}
 use Rattle.run_laws.proofs.InOrder.{told_callers_add, drivers_add, others_run_on, driver_runs_on, not-driver}
 use Rattle.script_runs.specs.Running.{AnswersLine, AreUpTo, DrivesLine, HasCome, RunsOn, StandsAs, TellsLine, last_after}
+use Rattle.script_runs.specs.Stations.{ComesTo, RunsOther}
 use Rattle.joint_machine.proofs.Deciding.{some-same}
 
 pub tells_line : (a b d : Progress) (p q r t : Pass) (index : ℕ) (o : Act) → Tells (pass_of a) (pass_of b) → Hears (pass_of a) p q
@@ -93,3 +95,36 @@ module _ (others : List Pass) (i : ℕ) (p q : Pass) (at : slice_get others i �
         stands = subst (λ s. StandsAs s new) (sym (k.still h.standing)) (k.stands h.standing h.stands);
         line = ap (λ (s : Standing). s.line) (k.still h.standing) ∙ (h.line ∙ sym (ap (λ b. if b then number else last) (not-driver others i p oth at)));
       })
+
+  pub runs_other : (number : ℕ) (a : Act) (t : Thread) (old new : Progress) → AreOthers others → AreUpTo number others → p.thread ≡ t → q.thread ≡ p.thread
+      → last_index (own q) ≤ number → TellsLine old new p q number a → RunsOther number t a old new others (slice_set others i q)
+  runs_other number a t old new oth up is same l k = record {
+    others_are = still_others oth same;
+    up_to = still_up_to number up l;
+    own_stay = k.own_stay;
+    knew = k.adds.more;
+    runs = other_on number a t old new oth is same k;
+  }
+
+-- the number of the driver's last line behind a line of its own, and behind another's
+pub driver_comes : (number last : ℕ) (line : Thread × Act) (old new : Progress) (others : List Pass) → line.0 ≡ C → AreOthers others → AreUpTo number others
+    → line_of new ≤ number → DrivesLine old new number line.1 → ComesTo number last number line old new others others
+driver_comes number last line old new others is oth up l k = record {
+  others_are = oth;
+  up_to = up;
+  driven = l;
+  within = omega arith;
+  last_is = sym (ap (λ t. last_after last number t) is);
+  runs = driver_on number line.1 line.0 old new others is oth k;
+}
+
+pub other_comes : (number last : ℕ) (line : Thread × Act) (old new : Progress) (others others' : List Pass) → is_thread C line.0 ≡ false → line_of old ≤ last → last ≤ number
+    → RunsOther number line.0 line.1 old new others others' → ComesTo number last last line old new others others'
+other_comes number last line old new others others' other driven within k = record {
+  others_are = k.others_are;
+  up_to = k.up_to;
+  driven = subst (λ es. last_index es ≤ last) (sym k.own_stay) driven;
+  within = within;
+  last_is = sym (ap (λ b. if b then number else last) other);
+  runs = k.runs;
+}

@@ -22,15 +22,16 @@ ghost use Rattle.run_laws.specs.Serial.{AreOthers};
 ghost use Rattle.bridge_script.specs.Scripts.{IsScriptLine};
 ghost use Rattle.graph_listing.specs.Listing.{Listed, cycles_text};
 ghost use Rattle.graph_listing.specs.Numbers.{AreOfNodes, listed_of};
-ghost use Rattle.script_runs.specs.Running.{AreUpTo, CanRun, DrivesLine, HasCome, HasComeThrough, RunsOn, last_after};
+ghost use Rattle.script_runs.specs.Running.{AreUpTo, CanRun, DrivesLine, HasComeThrough};
+ghost use Rattle.script_runs.specs.Stations.{AreNewCallers, ComesTo, HasListedAll};
 ghost use Rattle.listing_laws.specs.Listings.{IsListedIn};
 ghost use Rattle.listing_laws.specs.Writing.{GoesOn, WroteListing};
-ghost use Rattle.script_runs.specs.Listed.{AreAllListed, EndsListing, HasNoSnap, Lists, ListsLine, ListsOne};
+ghost use Rattle.script_runs.specs.Listed.{AreAllListed, EndsListing, Lists, ListsLine, ListsOne};
 ghost use Rattle.script_runs.specs.Listed.{opening_of};
 
 use crate::lines::{drive_left, drive_line};
-use crate::places::{is_thread, place_among};
-use crate::serial::{all_others, run_told};
+use crate::places::is_thread;
+use crate::serial::{all_retired, new_callers, run_other};
 use bridge_cycle::Driver;
 use bridge_graph::DeadGraph;
 use byte_streams::{Failed, Sink};
@@ -221,14 +222,9 @@ fn run_next_listed<N: OrderName, O: Sink>(
     requires up_to { AreUpTo number others.old.items }
     requires driven { (line_of driver.old ≤ last) × (last ≤ number) }
     requires few { listing.old.cycles < u32.MAX }
-    ensures others { OnOk result (AreOthers others.new.items) }
-    ensures up_to { OnOk result (AreUpTo number others.new.items) }
-    ensures driven { IfOk result (λ last. (line_of driver.new ≤ last) × (last ≤ number)) }
-    ensures last { IfOk result (λ r. r ≡ last_after last number line.now.0) }
-    ensures runs { OnOk result (RunsOn number line.now.0 line.now.1
-        driver.old driver.new others.old.items others.new.items) }
-    ensures lists { Lists result listing.old listing.new (O.held out.old) (O.held out.new)
-        (O.faults out.old) (O.faults out.new) (λ _ cycles. ListsLine driver.old driver.new cycles) }
+    ensures { Lists result listing.old listing.new (O.held out.old) (O.held out.new) (O.faults out.old)
+        (O.faults out.new) (λ r cycles. ComesTo number last r line.now driver.old driver.new
+        others.old.items others.new.items × ListsLine driver.old driver.new cycles) }
 {
     let (thread, act) = line;
     if is_thread(Thread::C, *thread) {
@@ -237,14 +233,7 @@ fn run_next_listed<N: OrderName, O: Sink>(
         };
         return Ok(number);
     }
-    let Ok(()) = run_told(
-        rt,
-        shared,
-        driver,
-        &mut others[place_among(*thread)],
-        number,
-        act,
-    ) else {
+    let Ok(()) = run_other(rt, shared, driver, others, number, line) else {
         return Err(AllocError);
     };
     Ok(last)
@@ -262,15 +251,11 @@ fn run_all_listed<N: OrderName, O: Sink>(
     out: &mut O,
 ) -> Result<u32, AllocError>
     requires lines { CanRun script.now }
-    requires others { AreOthers others.old.items }
-    requires up_to { AreUpTo 0 others.old.items }
-    requires driven { line_of driver.old ≤ 0 }
-    requires nothing { HasCome [] 0 driver.old others.old.items }
-    requires no_snap { HasNoSnap driver.old }
+    requires new { AreNewCallers driver.old others.old.items }
     requires none { listing.old.cycles ≡ 0 }
-    ensures come { IfOk result (λ last. HasComeThrough script.now last driver.new others.new.items) }
-    ensures lists { Lists result listing.old listing.new (O.held out.old) (O.held out.new)
-        (O.faults out.old) (O.faults out.new) (λ _ cycles. AreAllListed driver.new cycles) }
+    ensures { Lists result listing.old listing.new (O.held out.old) (O.held out.new)
+        (O.faults out.old) (O.faults out.new) (λ last cycles. HasComeThrough script.now last
+        driver.new others.new.items × AreAllListed driver.new cycles) }
 {
     let mut last = 0;
     let mut number = 0;
@@ -284,6 +269,29 @@ fn run_all_listed<N: OrderName, O: Sink>(
         last = next;
     }
     Ok(last)
+}
+
+// Runs all lines, lists each cycle, and makes the phases that the driver's lines have left.
+fn compare_script<N: OrderName, O: Sink>(
+    rt: &impl Wait,
+    alloc: Global,
+    shared: &Shared<N, Alone>,
+    driver: &mut Driver<N>,
+    others: &mut Vec<Caller<N>>,
+    script: &[(Thread, Act)],
+    listing: &mut Listing,
+    out: &mut O,
+) -> Result<(), AllocError>
+    requires lines { CanRun script.now }
+    requires new { AreNewCallers driver.old others.old.items }
+    requires none { listing.old.cycles ≡ 0 }
+    ensures { Lists result listing.old listing.new (O.held out.old) (O.held out.new) (O.faults out.old)
+        (O.faults out.new) (λ _ cycles. HasListedAll script.now driver.new others.new.items cycles) }
+{
+    let Ok(last) = run_all_listed(rt, alloc, shared, driver, others, script, listing, out) else {
+        return Err(AllocError);
+    };
+    drive_left(rt, alloc, shared, driver, last)
 }
 
 // Runs a script by the callers of the desk, lists each cycle, and answers the callers that were given out.
@@ -308,14 +316,11 @@ fn compare_by_desk<N: OrderName, O: Sink>(
         (λ v cycles. (h : Finished) → IsLinked h → All (HasOwn h.entries) v.items
         → IsKnownHistory v.items h → IsListedIn h cycles) }
 {
-    let Some(caller) = desk.caller(Thread::C) else {
-        unreachable!()
-    };
-    let mut driver = Driver::new(caller);
-    let Ok(mut others) = all_others(alloc, desk) else {
+    let Ok((driver, others)) = new_callers(alloc, desk) else {
         return Err(AllocError);
     };
-    let Ok(last) = run_all_listed(
+    let (mut driver, mut others) = (driver, others);
+    let ran = compare_script(
         rt,
         alloc,
         shared,
@@ -324,16 +329,15 @@ fn compare_by_desk<N: OrderName, O: Sink>(
         script,
         listing,
         out,
-    ) else {
-        return Err(AllocError);
-    };
-    let Ok(()) = drive_left(rt, alloc, shared, &mut driver, last) else {
-        return Err(AllocError);
-    };
-    let Ok(()) = others.push(driver.retire()) else {
-        return Err(AllocError);
-    };
-    Ok(others)
+    );
+    match ran {
+        Ok(()) => all_retired(driver, others),
+        Err(fault) => {
+            drop(others);
+            drop(driver);
+            Err(fault)
+        }
+    }
 }
 
 // Writes the last line of a listing, unless the sink failed before.

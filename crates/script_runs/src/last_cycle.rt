@@ -1,6 +1,6 @@
 // The run of a script with one cycle more: the driver runs it once all threads have ended.
 
-ghost use Rattle.std.specs.Prelude.{◌≡◌, ◌+◌, ◌<◌, ◌≤◌, ◌^◌, [], ◌∷◌, ◌++◌, IfOk, All, length};
+ghost use Rattle.std.specs.Prelude.{◌≡◌, ◌+◌, ◌<◌, ◌≤◌, ◌^◌, [], ◌∷◌, ◌++◌, IfOk, OnOk, All, length};
 ghost use Rattle.joint_machine.specs.declared.names.Thread.{Thread};
 ghost use Rattle.joint_machine.specs.Histories.{Finished};
 ghost use Rattle.joint_machine.specs.Lines.{IsDriver, IsThread};
@@ -66,33 +66,37 @@ fn cycle_last<N: OrderName>(
 {
     let mut driver = Driver::new(driver);
     hear_all(shared, &mut driver, others);
-    drive_line(rt, alloc, shared, &mut driver, number, &CYCLE)?;
-    Ok(driver.retire())
+    match drive_line(rt, alloc, shared, &mut driver, number, &CYCLE) {
+        Ok(()) => Ok(driver.retire()),
+        Err(fault) => {
+            drop(driver);
+            Err(fault)
+        }
+    }
 }
 
-// Runs a cycle more by the callers that have run a script, and answers them with the driver's as the last.
+// Runs a cycle more by the callers that have run a script; the driver's is the last of them then.
 fn run_cycle<N: OrderName>(
     rt: &impl Wait,
     alloc: Global,
     shared: &Shared<N, Locks>,
     script: &[(Thread, Act)],
-    callers: Vec<Caller<N>>,
-) -> Result<Vec<Caller<N>>, AllocError>
+    callers: &mut Vec<Caller<N>>,
+) -> Result<(), AllocError>
     requires lines { CanRun script.now }
     requires room { length script.now < u32.MAX }
-    requires ran { HaveRun script.now callers.items }
-    ensures all { IfOk result (λ v. (d : Waiting) → HasAll d callers.items → HasAll d v.items) }
-    ensures idle { IfOk result (λ v. All HasIdleDriver v.items) }
-    ensures ran { IfOk result (λ v. (h : Finished) (d : Waiting) → HasAll d callers.items → NoneIsLeft script.now d
-        → IsFinished h → length h.entries < 2 ^ 64 → All (HasOwn h.entries) v.items → ((t : Thread) → IsThread t
-        → StillWaits d t → made_by t h.entries ≡ []) → IsRunThenCycle script.now h) }
+    requires ran { HaveRun script.now callers.old.items }
+    ensures all { OnOk result ((d : Waiting) → HasAll d callers.old.items → HasAll d callers.new.items) }
+    ensures idle { OnOk result (All HasIdleDriver callers.new.items) }
+    ensures ran { OnOk result ((h : Finished) (d : Waiting) → HasAll d callers.old.items → NoneIsLeft script.now d
+        → IsFinished h → length h.entries < 2 ^ 64 → All (HasOwn h.entries) callers.new.items
+        → ((t : Thread) → IsThread t → StillWaits d t → made_by t h.entries ≡ []) → IsRunThenCycle script.now h) }
 {
-    let mut callers = callers;
     let driver = callers.remove(0);
     let number = script.len() as u32 + 1;
-    let driver = cycle_last(rt, alloc, shared, number, driver, &mut callers)?;
+    let driver = cycle_last(rt, alloc, shared, number, driver, callers)?;
     callers.push(driver)?;
-    Ok(callers)
+    Ok(())
 }
 
 // Runs a script by the callers of one order, and a cycle more.
@@ -112,7 +116,7 @@ fn run_named<N: OrderName + Send + Sync, R: Threads + Wait + Sync, T: Turnstile 
     ensures history { IfOk result (λ e. IsRunThenCycle script.now e.history) }
     ensures counted { IfOk result HasEndNumbers }
 {
-    let (shared, desk, callers) = run_lines::<N, R, T>(
+    let (shared, desk, mut callers) = run_lines::<N, R, T>(
         rt,
         alloc,
         order,
@@ -121,9 +125,11 @@ fn run_named<N: OrderName + Send + Sync, R: Threads + Wait + Sync, T: Turnstile 
         turn,
         Holding::Last,
     )?;
-    match run_cycle(rt, alloc, &shared, script, callers) {
-        Ok(callers) => Ok(shared.end(desk, callers)),
+    match run_cycle(rt, alloc, &shared, script, &mut callers) {
+        Ok(()) => Ok(shared.end(desk, callers)),
         Err(fault) => {
+            drop(callers);
+            drop(desk);
             drop(shared);
             Err(fault)
         }
@@ -149,6 +155,15 @@ pub fn run_threads_then_cycle<R: Threads + Wait + Sync, T: Turnstile + Sync>(
     run_named::<Brand, R, T>(rt, alloc, order, seat, script, turn)
 }
 
+// The lines with that of a whole cycle behind them.
+fn with_cycle(script: Vec<(Thread, Act)>) -> Result<Vec<(Thread, Act)>, AllocError>
+    ensures { IfOk result (λ v. v.items ≡ script.items ++ cycle_line ∷ []) }
+{
+    let mut lines = script;
+    lines.push((Thread::C, CYCLE))?;
+    Ok(lines)
+}
+
 /// Runs the lines of a script one after another, as `run_serial` does, and then a whole cycle, on a line of its own,
 /// which is put behind them. All lines of the driver are whole cycles too. No entry is kept: the finished history is
 /// there for proofs alone, and the numbers of its last state are answered, or `AllocError` where there is no memory.
@@ -164,7 +179,8 @@ pub fn run_serial_then_cycle(
     ensures history { IfOk result (λ e. IsRunThenCycle script.items e.history) }
     ensures counted { IfOk result HasEndNumbers }
 {
-    let mut lines = script;
-    lines.push((Thread::C, CYCLE))?;
-    end_serial(rt, alloc, &lines)
+    let lines = with_cycle(script)?;
+    let ended = end_serial(rt, alloc, &lines);
+    drop(lines);
+    ended
 }

@@ -1,7 +1,10 @@
 // The run of a script on one thread: its lines one after another.
 
-ghost use Rattle.std.specs.Prelude.{◌≡◌, ℕ, ◌+◌, ◌≤◌, ◌<◌, ◌^◌, [], Some, All, IfOk, OnOk, OnErr, length, slice_get};
+ghost use Rattle.std.specs.Prelude.{◌≡◌, ℕ, ◌+◌, ◌≤◌, ◌<◌, ◌^◌, false, [], ◌∷◌, ◌++◌, Some, All, IfOk, OnOk, OnErr, length, slice_get};
 ghost use Rattle.joint_machine.specs.Histories.{Finished};
+ghost use Rattle.joint_machine.specs.PeerReplay.{is_thread};
+ghost use Rattle.joint_machine.specs.declared.names.Phase.TheVariants.{Idle};
+ghost use Rattle.joint_machine.specs.declared.names.Thread.TheVariants.{C};
 ghost use Rattle.joint_machine.specs.LinkedHistories.{IsLinked};
 ghost use Rattle.order_table.specs.Allowed.{Settled};
 ghost use Rattle.order_table.specs.Views.{OwnsAll};
@@ -9,11 +12,12 @@ ghost use Rattle.joint_history.specs.Callers.{KnowsNothing, Pass, last_index, ow
 ghost use Rattle.joint_history.specs.Desks.{AreAll};
 ghost use Rattle.joint_history.specs.Ending.{BeginsHistory, HasAll, HasIdleDriver, HasOwn, HasEndNumbers, IsFinished};
 ghost use Rattle.joint_history.specs.Operations.{IsOperationOf};
-ghost use Rattle.bridge_cycle.specs.Progress.{line_of};
+ghost use Rattle.bridge_cycle.specs.Progress.{line_of, pass_of};
 ghost use Rattle.run_laws.specs.Final.{IsRunInOrder};
 ghost use Rattle.run_laws.specs.Serial.{AreOthers};
 ghost use Rattle.bridge_script.specs.Scripts.{IsScriptLine};
-ghost use Rattle.script_runs.specs.Running.{AreUpTo, CanRun, HasCome, HasComeThrough, RunsOn, TellsLine, last_after};
+ghost use Rattle.script_runs.specs.Running.{AreUpTo, CanRun, HasComeThrough, TellsLine};
+ghost use Rattle.script_runs.specs.Stations.{AreNewCallers, ComesTo, HasRunAll, RunsOther};
 
 use crate::lines::{drive_left, drive_line, run_line_alone};
 use crate::places::{is_thread, place_among};
@@ -39,15 +43,43 @@ pub(crate) fn run_told<N: OrderName>(
     requires act { IsOperationOf caller.old.thread act.now }
     requires index { last_index (own caller.old) ≤ index }
     ensures thread { caller.new.thread ≡ caller.old.thread }
-    ensures index { OnOk result (last_index (own caller.new) ≤ index) }
+    ensures index { last_index (own caller.new) ≤ index }
     ensures ok { OnOk result (TellsLine driver.old driver.new caller.old caller.new index act.now) }
 {
     driver.tell(shared, caller);
     caller.recall_facts();
-    run_line_alone(rt, shared, caller, index, act)?;
+    let made = run_line_alone(rt, shared, caller, index, act);
     caller.recall_facts();
     driver.hear(shared, caller);
-    Ok(())
+    made
+}
+
+/// Runs a line of a thread that isn't the driver's, by its caller among the others.
+#[inline(always)]
+pub(crate) fn run_other<N: OrderName>(
+    rt: &impl Wait,
+    shared: &Shared<N, Alone>,
+    driver: &mut Driver<N>,
+    others: &mut Vec<Caller<N>>,
+    number: u32,
+    line: &(Thread, Act),
+) -> Result<(), AllocError>
+    requires line { IsScriptLine line.now }
+    requires other { is_thread C line.now.0 ≡ false }
+    requires others { AreOthers others.old.items }
+    requires up_to { AreUpTo number others.old.items }
+    ensures { OnOk result (RunsOther number line.now.0 line.now.1
+        driver.old driver.new others.old.items others.new.items) }
+{
+    let (thread, act) = line;
+    run_told(
+        rt,
+        shared,
+        driver,
+        &mut others[place_among(*thread)],
+        number,
+        act,
+    )
 }
 
 /// The callers of all threads but the driver's.
@@ -70,6 +102,26 @@ pub(crate) fn all_others<N: OrderName>(
     Ok(others)
 }
 
+/// The driver and the callers of all other threads, none of which has made anything.
+pub(crate) fn new_callers<N: OrderName>(
+    alloc: Global,
+    desk: &mut Desk<N>,
+) -> Result<(Driver<N>, Vec<Caller<N>>), AllocError>
+    requires desk { (desk.old.managed ≡ 8) × (desk.old.peers ≡ 8) × AreAll desk.old.callers }
+    ensures { IfOk result (λ r. AreNewCallers r.0 r.1.items) }
+{
+    let Some(caller) = desk.caller(Thread::C) else {
+        unreachable!()
+    };
+    match all_others(alloc, desk) {
+        Ok(others) => Ok((Driver::new(caller), others)),
+        Err(fault) => {
+            drop(caller);
+            Err(fault)
+        }
+    }
+}
+
 // Runs one line, and answers the number of the driver's last line.
 #[inline(always)]
 fn run_next<N: OrderName>(
@@ -86,11 +138,7 @@ fn run_next<N: OrderName>(
     requires others { AreOthers others.old.items }
     requires up_to { AreUpTo number others.old.items }
     requires driven { (line_of driver.old ≤ last) × (last ≤ number) }
-    ensures others { OnOk result (AreOthers others.new.items) }
-    ensures up_to { OnOk result (AreUpTo number others.new.items) }
-    ensures driven { IfOk result (λ last. (line_of driver.new ≤ last) × (last ≤ number)) }
-    ensures last { IfOk result (λ r. r ≡ last_after last number line.now.0) }
-    ensures runs { OnOk result (RunsOn number line.now.0 line.now.1
+    ensures { IfOk result (λ r. ComesTo number last r line.now
         driver.old driver.new others.old.items others.new.items) }
 {
     let (thread, act) = line;
@@ -98,14 +146,7 @@ fn run_next<N: OrderName>(
         drive_line(rt, alloc, shared, driver, number, act)?;
         return Ok(number);
     }
-    run_told(
-        rt,
-        shared,
-        driver,
-        &mut others[place_among(*thread)],
-        number,
-        act,
-    )?;
+    run_other(rt, shared, driver, others, number, line)?;
     Ok(last)
 }
 
@@ -119,10 +160,7 @@ fn run_all<N: OrderName>(
     script: &[(Thread, Act)],
 ) -> Result<u32, AllocError>
     requires lines { CanRun script.now }
-    requires others { AreOthers others.old.items }
-    requires up_to { AreUpTo 0 others.old.items }
-    requires driven { line_of driver.old ≤ 0 }
-    requires nothing { HasCome [] 0 driver.old others.old.items }
+    requires new { AreNewCallers driver.old others.old.items }
     ensures { IfOk result (λ last. HasComeThrough script.now last driver.new others.new.items) }
 {
     let mut last = 0;
@@ -132,6 +170,37 @@ fn run_all<N: OrderName>(
         last = run_next(rt, alloc, shared, driver, others, last, number, line)?;
     }
     Ok(last)
+}
+
+// Runs all lines, and then the phases that the driver's have left.
+fn run_script<N: OrderName>(
+    rt: &impl Wait,
+    alloc: Global,
+    shared: &Shared<N, Alone>,
+    driver: &mut Driver<N>,
+    others: &mut Vec<Caller<N>>,
+    script: &[(Thread, Act)],
+) -> Result<(), AllocError>
+    requires lines { CanRun script.now }
+    requires new { AreNewCallers driver.old others.old.items }
+    ensures { OnOk result (HasRunAll script.now driver.new others.new.items) }
+{
+    let last = run_all(rt, alloc, shared, driver, others, script)?;
+    drive_left(rt, alloc, shared, driver, last)
+}
+
+/// All callers, once the driver is idle: its own is the last.
+pub(crate) fn all_retired<N: OrderName>(
+    driver: Driver<N>,
+    others: Vec<Caller<N>>,
+) -> Result<Vec<Caller<N>>, AllocError>
+    requires { driver.phase ≡ Idle }
+    ensures all { IfOk result (λ v. v.items ≡ others.items ++ pass_of driver ∷ []) }
+    ensures idle { HasIdleDriver (pass_of driver) }
+{
+    let mut callers = others;
+    callers.push(driver.retire())?;
+    Ok(callers)
 }
 
 // Runs a script by the callers of the desk, and answers those that were given out.
@@ -149,15 +218,15 @@ fn run_by_desk<N: OrderName>(
     ensures ran { IfOk result (λ v. (h : Finished) → IsLinked h → IsFinished h → length h.entries < 2 ^ 64
         → All (HasOwn h.entries) v.items → All (BeginsHistory h.entries) v.items → IsRunInOrder script.now h) }
 {
-    let Some(caller) = desk.caller(Thread::C) else {
-        unreachable!()
-    };
-    let mut driver = Driver::new(caller);
-    let mut others = all_others(alloc, desk)?;
-    let last = run_all(rt, alloc, shared, &mut driver, &mut others, script)?;
-    drive_left(rt, alloc, shared, &mut driver, last)?;
-    others.push(driver.retire())?;
-    Ok(others)
+    let (mut driver, mut others) = new_callers(alloc, desk)?;
+    match run_script(rt, alloc, shared, &mut driver, &mut others, script) {
+        Ok(()) => all_retired(driver, others),
+        Err(fault) => {
+            drop(others);
+            drop(driver);
+            Err(fault)
+        }
+    }
 }
 
 // Runs a script by the callers of one order, and answers both sides and the callers, of which each is given back or
@@ -205,7 +274,10 @@ fn run_named<N: OrderName>(
     ensures { IfOk result (IsRunInOrder script.now) }
 {
     let (shared, desk, callers) = run_lines::<N>(rt, alloc, order, seat, script, Holding::Every)?;
-    shared.finish(desk, callers).map_err(|_| AllocError)
+    match shared.finish(desk, callers) {
+        Ok(history) => Ok(history),
+        Err(_) => Err(AllocError),
+    }
 }
 
 // The same for its numbers.

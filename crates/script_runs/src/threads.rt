@@ -21,6 +21,20 @@ use std::sync::Wait;
 use std::thread;
 use std::thread::Threads;
 
+// The callers with which the threads ended are put behind none.
+fn put_ended<N: OrderName>(
+    callers: &mut Vec<Caller<N>>,
+    ended: Vec<Result<Caller<N>, AllocError>>,
+) -> Result<(), AllocError>
+    requires { callers.old.items ≡ [] }
+    ensures { OnOk result (map (λ p. Ok p) callers.new.items ≡ ended.items) }
+{
+    for end in ended {
+        callers.push(end?)?;
+    }
+    Ok(())
+}
+
 // The callers with which the threads ended, or `AllocError` where one of them found no memory.
 fn all_ended<N: OrderName>(
     alloc: Global,
@@ -29,10 +43,13 @@ fn all_ended<N: OrderName>(
     ensures { IfOk result (λ v. map (λ p. Ok p) v.items ≡ ended.items) }
 {
     let mut callers = Vec::new(alloc);
-    for end in ended {
-        callers.push(end?)?;
+    match put_ended(&mut callers, ended) {
+        Ok(()) => Ok(callers),
+        Err(fault) => {
+            drop(callers);
+            Err(fault)
+        }
     }
-    Ok(callers)
 }
 
 // Runs each job's lines in a thread of its own; and answers with what each ended.
@@ -138,7 +155,10 @@ fn run_named<N: OrderName + Send + Sync, R: Threads + Wait + Sync, T: Turnstile 
         turn,
         Holding::Every,
     )?;
-    shared.finish(desk, callers).map_err(|_| AllocError)
+    match shared.finish(desk, callers) {
+        Ok(history) => Ok(history),
+        Err(_) => Err(AllocError),
+    }
 }
 
 /// Runs the lines of each thread of a script in a thread of its own, in their order and each after its turn, and then

@@ -1,14 +1,15 @@
 // The callers of a run, and what each does with its thread's lines.
 
-ghost use Rattle.std.specs.Prelude.{◌≡◌, ℕ, ◌≤◌, ◌<◌, false, true, [], All, IfOk, OnOk};
+ghost use Rattle.std.specs.Prelude.{◌≡◌, ◌≤◌, ◌<◌, false, true, [], IfOk, OnOk};
 ghost use Rattle.joint_machine.specs.Lines.{IsThread};
 ghost use Rattle.joint_machine.specs.declared.names.Phase.TheVariants.{Idle};
 ghost use Rattle.joint_machine.specs.declared.names.Thread.TheVariants.{C};
 ghost use Rattle.joint_history.specs.Callers.{KnowsNothing};
 ghost use Rattle.joint_history.specs.Ending.{HasAll};
 ghost use Rattle.joint_history.specs.Operations.{IsOwnThread};
-ghost use Rattle.run_laws.specs.Threads.{NoneIsLeft, thread_lines};
-ghost use Rattle.script_runs.specs.Running.{AreWorkers, CanRun, DriverIsFirst, EndsSo, HasDriven, HasLine, IsNewDriver};
+ghost use Rattle.run_laws.specs.Threads.{thread_lines};
+ghost use Rattle.script_runs.specs.Running.{CanRun, EndsSo, HasDriven, HasLine, HasRunLines, IsNewDriver};
+ghost use Rattle.script_runs.specs.Stations.{AreCalled};
 
 use crate::lines::{drive_left, drive_line, run_line_beside};
 use crate::places::is_thread;
@@ -33,22 +34,17 @@ fn has_line(script: &[(Thread, Act)], t: Thread) -> bool
     false
 }
 
-/// The callers of `c`, first of all, and of each other thread that has a line, in the order of their places. Answers
-/// `AllocError` where there is no memory.
-pub(crate) fn workers<N: OrderName>(
-    alloc: Global,
+// The callers of `c`, first of all, and of each other thread that has a line come, in the order of their places.
+fn call_workers<N: OrderName>(
     desk: &mut Desk<N>,
     script: &[(Thread, Act)],
-) -> Result<Vec<Caller<N>>, AllocError>
+    callers: &mut Vec<Caller<N>>,
+) -> Result<(), AllocError>
     requires all { HasAll desk.old [] }
     requires counts { (desk.old.managed ≡ 8) × (desk.old.peers ≡ 8) }
-    ensures all { IfOk result (λ v. HasAll desk.new v.items) }
-    ensures none { OnOk result (NoneIsLeft script.now desk.new) }
-    ensures new { IfOk result (λ v. All (λ p. IsThread p.thread × KnowsNothing p.view) v.items) }
-    ensures driver { IfOk result (λ v. DriverIsFirst v.items) }
-    ensures workers { IfOk result (λ v. AreWorkers script.now v.items) }
+    requires nobody { callers.old.items ≡ [] }
+    ensures { OnOk result (AreCalled script.now desk.new callers.new.items) }
 {
-    let mut callers = Vec::new(alloc);
     let Some(driver) = desk.caller(Thread::C) else {
         unreachable!()
     };
@@ -61,11 +57,56 @@ pub(crate) fn workers<N: OrderName>(
             }
         }
     }
-    Ok(callers)
+    Ok(())
 }
 
-/// Runs the lines of a thread that isn't the driver's, in their order, each after its turn. Answers `AllocError` where
-/// there is no memory.
+/// The callers of `c`, first of all, and of each other thread that has a line, in the order of their places. Answers
+/// `AllocError` where there is no memory.
+pub(crate) fn workers<N: OrderName>(
+    alloc: Global,
+    desk: &mut Desk<N>,
+    script: &[(Thread, Act)],
+) -> Result<Vec<Caller<N>>, AllocError>
+    requires all { HasAll desk.old [] }
+    requires counts { (desk.old.managed ≡ 8) × (desk.old.peers ≡ 8) }
+    ensures { IfOk result (λ v. AreCalled script.now desk.new v.items) }
+{
+    let mut callers = Vec::new(alloc);
+    match call_workers(desk, script, &mut callers) {
+        Ok(()) => Ok(callers),
+        Err(fault) => {
+            drop(callers);
+            Err(fault)
+        }
+    }
+}
+
+// Runs the lines of a thread that isn't the driver's, in their order, each after its turn.
+fn run_own_lines<N: OrderName, T: Turnstile>(
+    rt: &impl Wait,
+    shared: &Shared<N, Locks>,
+    script: &[(Thread, Act)],
+    turn: &T,
+    caller: &mut Caller<N>,
+) -> Result<(), AllocError>
+    requires thread { IsOwnThread caller.old.thread }
+    requires new { KnowsNothing caller.old.view }
+    requires lines { CanRun script.now }
+    ensures { OnOk result (HasRunLines script.now caller.old.thread caller.new) }
+{
+    let thread = caller.thread();
+    let mut number = 0;
+    for (t, act) in script {
+        number += 1;
+        if is_thread(thread, *t) {
+            turn.pass(thread, number);
+            run_line_beside(rt, shared, caller, number, act)?;
+        }
+    }
+    Ok(())
+}
+
+/// Runs the lines of the caller's thread, which isn't the driver's. Answers `AllocError` where there is no memory.
 pub(crate) fn run_own<N: OrderName, T: Turnstile>(
     rt: &impl Wait,
     shared: &Shared<N, Locks>,
@@ -79,16 +120,13 @@ pub(crate) fn run_own<N: OrderName, T: Turnstile>(
     ensures { EndsSo script.now caller result }
 {
     let mut caller = caller;
-    let thread = caller.thread();
-    let mut number = 0;
-    for (t, act) in script {
-        number += 1;
-        if is_thread(thread, *t) {
-            turn.pass(thread, number);
-            run_line_beside(rt, shared, &mut caller, number, act)?;
+    match run_own_lines(rt, shared, script, turn, &mut caller) {
+        Ok(()) => Ok(caller),
+        Err(fault) => {
+            drop(caller);
+            Err(fault)
         }
     }
-    Ok(caller)
 }
 
 // Runs the driver's lines, in their order, each after its turn, and then the phases that they have left. Answers
@@ -141,8 +179,13 @@ pub(crate) fn run_driver<N: OrderName, T: Turnstile>(
     ensures { EndsSo script.now caller result }
 {
     let mut driver = Driver::new(caller);
-    drive_all(rt, alloc, shared, script, turn, &mut driver)?;
-    Ok(driver.retire())
+    match drive_all(rt, alloc, shared, script, turn, &mut driver) {
+        Ok(()) => Ok(driver.retire()),
+        Err(fault) => {
+            drop(driver);
+            Err(fault)
+        }
+    }
 }
 
 /// Runs the lines of the caller's thread.

@@ -1,72 +1,43 @@
-use Rattle.std.proofs.Common.{◌<◌, length, refl, subst, sym, ap, ◌∙◌, arith, true≢false, []}
-use Rattle.std.proofs.lemmas.Option.{slice_get_read}
+use Rattle.std.proofs.Common.{[], sym, ◌∙◌}
 use Rattle.joint_machine.specs.declared.names.Thread.TheVariants.{C}
-use Rattle.joint_machine.specs.PeerReplay.{is_thread}
-use Rattle.joint_history.specs.Operations.{IsOperationOf}
-use Rattle.script_runs.proofs.Told.{driver_on, other_on, placed_thread, own_thread, still_others, still_up_to}
-use Rattle.script_runs.proofs.Making.{line_operation}
 use Rattle.joint_machine.proofs.HeapLemmas.{same_thread}
 use Rattle.listing_laws.proofs.Written.{wrote_none}
 use Rattle.script_runs.proofs.Opened.{lists_told}
+use Rattle.script_runs.proofs.Told.{driver_comes, other_comes}
 use Rattle.script_runs.proofs.compared.run_next_listed.Goals as goal
 
-pub returns-then-is_thread-clause-runs : goal.returns-then-is_thread-clause-runs
-returns-then-is_thread-clause-runs g c =
-    driver_on c.args.number c.args.line.now.1 c.args.line.now.0 c.args.driver.now c.drive_listed.new.driver c.args.others.now.items
-    (sym (same_thread C c.args.line.now.0 (sym c.is_thread.ensures ∙ c.if-is_thread.true))) c.requires.others c.in-Ok.ensures.ok
+pub run_other-requires-clause-other : goal.run_other-requires-clause-other
+run_other-requires-clause-other g c = sym c.is_thread.ensures ∙ c.if-is_thread.false
 
-pub place_among-requires : goal.place_among-requires
-place_among-requires g c = own_thread c.args.line.now.0 c.args.line.now.1 c.requires.line (λ e. true≢false (sym (ap (is_thread C) e) ∙ (sym c.is_thread.ensures ∙ c.if-is_thread.false)))
+pub returns-then-is_thread : goal.returns-then-is_thread
+returns-then-is_thread g c =
+    let l = c.in-Ok.ensures.lists in
+    record {
+      cycles = l.cycles;
+      wrote = l.wrote;
+      listed = (
+        driver_comes c.args.number c.args.last c.args.line.now c.args.driver.now c.drive_listed.new.driver c.args.others.now.items
+            (sym (same_thread C c.args.line.now.0 (sym c.is_thread.ensures ∙ c.if-is_thread.true))) c.requires.others c.requires.up_to c.drive_listed.ensures.index c.in-Ok.ensures.ok,
+        l.listed,
+      );
+    }
 
-pub run_told-requires-clause-act : goal.run_told-requires-clause-act
-run_told-requires-clause-act g c =
-    let few : c.place_among.result < length c.args.others.now.items = (let n = c.requires.others.count in let m = c.place_among.ensures.few in omega (arith, n, m)) in
-    let at = slice_get_read c.args.others.now.items (length c.args.others.now.items) c.place_among.result c.index_mut.result.now refl few c.index_mut.ensures.value in
-    let t = c.args.line.now.0 in
-    let is = own_thread t c.args.line.now.1 c.requires.line (λ e. true≢false (sym (ap (is_thread C) e) ∙ (sym c.is_thread.ensures ∙ c.if-is_thread.false))) in
-    let thread = placed_thread c.args.others.now.items c.place_among.result c.index_mut.result.now t c.requires.others at is c.place_among.ensures.place in
-    subst (λ u. IsOperationOf u c.args.line.now.1) (sym thread) (line_operation t c.args.line.now.1 is c.requires.line)
-
-pub run_told-requires-clause-index : goal.run_told-requires-clause-index
-run_told-requires-clause-index g c =
-    let few : c.place_among.result < length c.args.others.now.items = (let n = c.requires.others.count in let m = c.place_among.ensures.few in omega (arith, n, m)) in
-    c.requires.up_to c.place_among.result c.index_mut.result.now
-    (slice_get_read c.args.others.now.items (length c.args.others.now.items) c.place_among.result c.index_mut.result.now refl few c.index_mut.ensures.value)
-
-pub returns-clause-others : goal.returns-clause-others
-returns-clause-others g c =
-    let few : c.place_among.result < length c.args.others.now.items = (let n = c.requires.others.count in let m = c.place_among.ensures.few in omega (arith, n, m)) in
-    let at = slice_get_read c.args.others.now.items (length c.args.others.now.items) c.place_among.result c.index_mut.result.now refl few c.index_mut.ensures.value in
-    still_others c.args.others.now.items c.place_among.result c.index_mut.result.now c.run_told.new.caller at c.requires.others c.run_told.ensures.thread
-
-pub returns-clause-up_to : goal.returns-clause-up_to
-returns-clause-up_to g c =
-    let few : c.place_among.result < length c.args.others.now.items = (let n = c.requires.others.count in let m = c.place_among.ensures.few in omega (arith, n, m)) in
-    let at = slice_get_read c.args.others.now.items (length c.args.others.now.items) c.place_among.result c.index_mut.result.now refl few c.index_mut.ensures.value in
-    still_up_to c.args.others.now.items c.place_among.result c.index_mut.result.now c.run_told.new.caller at c.args.number c.requires.up_to c.in-Ok-run_told.ensures.index
-
-pub returns-clause-runs : goal.returns-clause-runs
-returns-clause-runs g c =
-    let few : c.place_among.result < length c.args.others.now.items = (let n = c.requires.others.count in let m = c.place_among.ensures.few in omega (arith, n, m)) in
-    let at = slice_get_read c.args.others.now.items (length c.args.others.now.items) c.place_among.result c.index_mut.result.now refl few c.index_mut.ensures.value in
-    let t = c.args.line.now.0 in
-    let is = own_thread t c.args.line.now.1 c.requires.line (λ e. true≢false (sym (ap (is_thread C) e) ∙ (sym c.is_thread.ensures ∙ c.if-is_thread.false))) in
-    let thread = placed_thread c.args.others.now.items c.place_among.result c.index_mut.result.now t c.requires.others at is c.place_among.ensures.place in
-    other_on c.args.others.now.items c.place_among.result c.index_mut.result.now c.run_told.new.caller at c.args.number c.args.line.now.1
-    t c.args.driver.now c.run_told.new.driver c.requires.others thread c.run_told.ensures.thread c.in-Ok-run_told.ensures.ok
-
-pub returns-in_default-run_told-clause-lists : goal.returns-in_default-run_told-clause-lists
-returns-in_default-run_told-clause-lists g c = record {
+pub returns-in_default-run_other : goal.returns-in_default-run_other
+returns-in_default-run_other g c = record {
   cycles = [];
   wrote = wrote_none c.args.listing.now.cycles c.args.listing.now.written (g.O.Sink.held c.args.out.now) (g.O.Sink.faults c.args.out.now);
   listed = tt;
 }
 
-pub returns-clause-lists : goal.returns-clause-lists
-returns-clause-lists g c =
-    let k = c.in-Ok-run_told.ensures.ok in
+pub returns : goal.returns
+returns g c =
+    let k = c.in-Ok-run_other.ensures in
     record {
       cycles = [];
       wrote = wrote_none c.args.listing.now.cycles c.args.listing.now.written (g.O.Sink.held c.args.out.now) (g.O.Sink.faults c.args.out.now);
-      listed = lists_told c.args.driver.now c.run_told.new.driver k.own_stay k.adds.more;
+      listed = (
+        other_comes c.args.number c.args.last c.args.line.now c.args.driver.now c.run_other.new.driver c.args.others.now.items c.run_other.new.others.items
+            (sym c.is_thread.ensures ∙ c.if-is_thread.false) c.requires.driven.0 c.requires.driven.1 k,
+        lists_told c.args.driver.now c.run_other.new.driver k.own_stay k.knew,
+      );
     }

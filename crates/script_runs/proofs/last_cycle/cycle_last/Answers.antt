@@ -11,10 +11,10 @@ drive_line-requires-clause-index g c = subst (λ es. last_index es ≤ c.args.nu
 pub retire-requires : goal.retire-requires
 retire-requires g c =
     idle_again c.args.number c.args.driver c.new-driver.result c.hear_all.new.driver c.drive_line.new.driver c.args.others.now.items
-    c.hear_all.new.others.items c.new-driver.ensures c.requires.driver c.hear_all.ensures c.in_ok-drive_line.ensures.ok
+    c.hear_all.new.others.items c.new-driver.ensures c.requires.driver c.hear_all.ensures c.in-Ok.ensures.ok
 
-pub returns-clause-ends : goal.returns-clause-ends
-returns-clause-ends g c =
+pub returns-in-Ok-clause-ends : goal.returns-in-Ok-clause-ends
+returns-in-Ok-clause-ends g c =
     ends_with_cycle c.args.number c.args.driver c.new-driver.result c.hear_all.new.driver c.drive_line.new.driver
     c.args.others.now.items c.hear_all.new.others.items c.new-driver.ensures c.requires.driver c.hear_all.ensures
-    c.in_ok-drive_line.ensures.ok c.retire.result c.retire.ensures.pass
+    c.in-Ok.ensures.ok c.retire.result c.retire.ensures.pass

@@ -13,3 +13,6 @@ returns-clause-ran g c =
     let n : length c.in_ok-ended.ended.items ≡ length c.in_ok-jobs.jobs.items = omega (arith, c.in_ok-ended.ensures.len) in
     (jobs_ended c.args.script.now c.in_ok-jobs.jobs.items c.in_ok-callers.callers.items c.in_ok-ended.ended.items c.in_ok-callers.ensures n
     (λ i d e l. c.in_ok-ended.ensures.each i d e (omega (arith, l))) c.in_ok-jobs.ensures.driver).ran
+
+pub returns-clause-none : goal.returns-clause-none
+returns-clause-none g c = c.in_ok-jobs.ensures.none

@@ -9,8 +9,8 @@ use Rattle.run_laws.specs.Threads.{thread_lines}
 use Rattle.script_runs.specs.Running.{DriverIsFirst, HasLine}
 use Rattle.script_runs.proofs.Desked.{NoneIsLeftBelow, Working, all_asked, driver_alone, driver_waits, given_out, nobody_asked, not_there, others_stay, passed_over}
 use Rattle.script_runs.proofs.Ordered.{InOrder, first_in_order, next_in_order, passed_in_order}
-use Rattle.script_runs.proofs.workers.workers.Goals as goal
-use Rattle.script_runs.proofs.workers.workers.Goals.{then-has_line+in-Some-caller+in_ok-push-2, then-has_line+in_default-caller, else-has_line}
+use Rattle.script_runs.proofs.workers.call_workers.Goals as goal
+use Rattle.script_runs.proofs.workers.call_workers.Goals.{then-has_line+in-Some-caller+in_ok-push-2, then-has_line+in_default-caller, else-has_line}
 
 pub unreachable-requires : goal.unreachable-requires
 unreachable-requires g c = driver_waits c.args.desk.now c.requires.all (sym c.caller.ensures.caller ∙ c.in_default.is)
@@ -25,7 +25,7 @@ loop-place-init g c =
     let d = c.args.desk.now in
     let p = c.in-Some.driver in
     let w : Working script d [] 0 = (c.requires.all, c.requires.counts.0, c.requires.counts.1, nobody_asked script d, All-nil (λ (q : Pass). IsThread q.thread × KnowsNothing q.view)) in
-    let items : c.push.new.self.items ≡ p ∷ [] = c.in_ok-push.ensures.items ∙ ap (λ l. l ++ p ∷ []) c.new-callers.ensures.items in
+    let items : c.push.new.self.items ≡ p ∷ [] = c.in_ok-push.ensures.items ∙ ap (λ l. l ++ p ∷ []) c.requires.nobody in
     subst (λ ps. Kept script c.caller.new.self ps 1) (sym items) (
       given_out script d c.caller.new.self [] 0 (omega arith) w c.caller.result p c.caller.ensures.desk c.caller.ensures.all c.in-Some.is c.in-Some.ensures.thread c.in-Some.ensures.nothing,
       driver_alone p c.in-Some.ensures.thread,
@@ -73,7 +73,14 @@ loop-place-preserved g c =
           ))
     ]
 
-pub returns-clause-none : goal.returns-clause-none
-returns-clause-none g c =
+pub returns : goal.returns
+returns g c =
     let end : c.loop-place.place ≡ 17 = omega arith in
-    all_asked c.args.script.now c.loop-place.desk (subst (NoneIsLeftBelow c.args.script.now c.loop-place.desk) end c.loop-place.invariant.0.3)
+    let i = c.loop-place.invariant in
+    record {
+      all = i.0.0;
+      none = all_asked c.args.script.now c.loop-place.desk (subst (NoneIsLeftBelow c.args.script.now c.loop-place.desk) end i.0.3);
+      new = i.0.4;
+      driver = i.1;
+      workers = i.3.are;
+    }

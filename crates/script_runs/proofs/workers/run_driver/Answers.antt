@@ -6,5 +6,5 @@ use Rattle.bridge_cycle.proofs.Refusals.{idle_first}
 pub new-driver-requires-clause-idle : goal.new-driver-requires-clause-idle
 new-driver-requires-clause-idle g c = idle_first c.args.caller c.requires.new
 
-pub returns : goal.returns
-returns g c = subst (λ t. HasRunLines c.args.script.now t c.retire.result) (sym c.requires.thread) (c.in_ok-drive_all.ensures.ok c.retire.result c.retire.ensures.pass c.retire.ensures.idle)
+pub returns-in-Ok : goal.returns-in-Ok
+returns-in-Ok g c = subst (λ t. HasRunLines c.args.script.now t c.retire.result) (sym c.requires.thread) (c.in-Ok.ensures.ok c.retire.result c.retire.ensures.pass c.retire.ensures.idle)

@@ -9,8 +9,8 @@ use Rattle.run_laws.specs.Waits.{WaitsEnd}
 use Rattle.script_runs.specs.Running.{HasRunLines, MakesLine}
 use Rattle.script_runs.proofs.Owned.{own_ends, own_holds, own_waits, other_holds}
 use Rattle.script_runs.proofs.Reading.{line_of, there}
-use Rattle.script_runs.proofs.workers.run_own.Goals as goal
-use Rattle.script_runs.proofs.workers.run_own.Goals.{then-is_thread+in_ok-run_line_beside, else-is_thread}
+use Rattle.script_runs.proofs.workers.run_own_lines.Goals as goal
+use Rattle.script_runs.proofs.workers.run_own_lines.Goals.{then-is_thread+in_ok-run_line_beside, else-is_thread}
 
 pub loop-t-preserved : goal.loop-t-preserved
 loop-t-preserved g c =

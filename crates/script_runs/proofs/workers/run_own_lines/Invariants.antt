@@ -4,7 +4,7 @@ use Rattle.script_laws.specs.Holding.{opening_standing}
 use Rattle.joint_machine.specs.Lines.{IsManagedThread}
 use Rattle.run_laws.specs.Threads.{HoldsItsFirst}
 use Rattle.run_laws.specs.Waits.{WaitsEnd}
-use Rattle.script_runs.proofs.workers.run_own.Given as goal
+use Rattle.script_runs.proofs.workers.run_own_lines.Given as goal
 
 abbrev pub invariant-loop-t : goal.invariant-loop-t
 invariant-loop-t g l = (l.number ≡ l.t-index) × (l.caller.thread ≡ l.thread) × (last_index (own l.caller) ≤ l.number)
