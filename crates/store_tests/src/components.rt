@@ -2,6 +2,7 @@
 
 ghost use Rattle.std.specs.Prelude.{◌≡◌, []};
 
+use std::alloc::Global;
 use std::test::Fail;
 use xref_list::{Added, Components, ComponentsBuilder, End, ListingFault};
 
@@ -126,34 +127,73 @@ fn are_circles(components: &Components) -> bool {
         && has_edges(components, EDGES.as_slice())
 }
 
-// Two components of one member each, and a pair that is added twice.
+// The lists of the tests.
+#[derive(Clone, Copy)]
+enum Case {
+    // two components of one member each, and a pair that is added twice
+    Single,
+    // circles come first, then pairs in order, however they were added
+    Circles,
+    // a component without members stands behind the others, and a temporary stands for it
+    Bridgeless,
+}
+
+fn add_case(builder: &mut ComponentsBuilder, case: Case) -> Result<bool, ListingFault>
+    requires comps { builder.old.comps ≡ [] }
+    requires heavy { builder.old.heavy ≡ 0 }
+    requires pairs { builder.old.pairs ≡ [] }
+{
+    match case {
+        Case::Single => add_single(builder),
+        Case::Circles => add_circles(builder),
+        Case::Bridgeless => add_bridgeless(builder),
+    }
+}
+
+fn is_case(components: &Components, case: Case) -> bool {
+    match case {
+        Case::Single => has_edges(components, &[(End::Node(0), End::Node(3))]),
+        Case::Circles => are_circles(components),
+        Case::Bridgeless => {
+            components.len() == 2
+                && components.heavy() == 1
+                && has_members(components, 1, &[])
+                && has_edges(components, OVER_TEMPORARY.as_slice())
+        }
+    }
+}
+
+// Whether each call answers as it should, and the list is as it should be.
+fn holds(alloc: Global, case: Case) -> Result<bool, ListingFault> {
+    let mut builder = ComponentsBuilder::new(alloc);
+    match add_case(&mut builder, case) {
+        Ok(added) => {
+            let components = builder.finish()?;
+            let right = is_case(&components, case);
+            drop(components);
+            Ok(added && right)
+        }
+        Err(fault) => {
+            drop(builder);
+            Err(fault)
+        }
+    }
+}
+
 #[test]
 fn one_pair(rt: HostRuntime) -> Result<(), Fail> {
-    let mut builder = ComponentsBuilder::new(rt.alloc());
-    let added = add_single(&mut builder)?;
-    let components = builder.finish()?;
-    assert!(rt; added && has_edges(&components, &[(End::Node(0), End::Node(3))]));
+    assert!(rt; holds(rt.alloc(), Case::Single)?);
     Ok(())
 }
 
-// Circles come first, then pairs in order, however they were added.
 #[test]
 fn circles_and_pairs(rt: HostRuntime) -> Result<(), Fail> {
-    let mut builder = ComponentsBuilder::new(rt.alloc());
-    let added = add_circles(&mut builder)?;
-    let components = builder.finish()?;
-    assert!(rt; added && are_circles(&components));
+    assert!(rt; holds(rt.alloc(), Case::Circles)?);
     Ok(())
 }
 
-// A component without members stands behind the others, and a temporary stands for it.
 #[test]
 fn one_without_members(rt: HostRuntime) -> Result<(), Fail> {
-    let mut builder = ComponentsBuilder::new(rt.alloc());
-    let added = add_bridgeless(&mut builder)?;
-    let components = builder.finish()?;
-    assert_eq!(rt; (components.len(), components.heavy()), (2, 1));
-    assert!(rt; added && has_members(&components, 1, &[]));
-    assert!(rt; has_edges(&components, OVER_TEMPORARY.as_slice()));
+    assert!(rt; holds(rt.alloc(), Case::Bridgeless)?);
     Ok(())
 }

@@ -4,7 +4,7 @@ ghost use Rattle.std.specs.Prelude.{◌<◌, length};
 
 use bridge_graph::{DeadGraph, GraphBuilder, Node};
 use joint_model::{HNum, MNum};
-use std::alloc::AllocError;
+use std::alloc::{AllocError, Global};
 use std::test::Fail;
 
 // A bridge node, and an opaque plain one.
@@ -90,23 +90,56 @@ fn is_part(graph: &DeadGraph, nodes: &[Node], rows: &[&[u32]]) -> bool {
     graph.nodes() as usize == nodes.len()
 }
 
+// Whether the nodes and edges may be added, behind a reserve or not, and just those nodes stand there, with
+// these edges.
+fn holds(
+    alloc: Global,
+    reserved: bool,
+    nodes: &[Node],
+    edges: &[(u32, u32)],
+    rows: &[&[u32]],
+) -> Result<bool, AllocError> {
+    let mut builder = GraphBuilder::new(alloc);
+    match fill_reserved(&mut builder, reserved, nodes, edges) {
+        Ok(filled) => {
+            let graph = builder.finish();
+            let right = is_part(&graph, nodes, rows);
+            drop(graph);
+            Ok(filled && right)
+        }
+        Err(failed) => {
+            drop(builder);
+            Err(failed)
+        }
+    }
+}
+
+// Adds nodes and edges as `fill` does, after a reserve or not.
+fn fill_reserved(
+    builder: &mut GraphBuilder,
+    reserved: bool,
+    nodes: &[Node],
+    edges: &[(u32, u32)],
+) -> Result<bool, AllocError> {
+    if reserved {
+        builder.reserve(3, 6)?;
+    }
+    fill(builder, nodes, edges)
+}
+
 // A bridge node with a reference to an opaque plain one.
 #[test]
 fn two_nodes(rt: HostRuntime) -> Result<(), Fail> {
-    let mut builder = GraphBuilder::new(rt.alloc());
-    let filled = fill(&mut builder, TWO.as_slice(), &[(0, 1)])?;
-    let graph = builder.finish();
-    assert!(rt; filled && is_part(&graph, TWO.as_slice(), &[&[1], &[]]));
+    let right = holds(rt.alloc(), false, TWO.as_slice(), &[(0, 1)], &[&[1], &[]])?;
+    assert!(rt; right);
     Ok(())
 }
 
 // Edges that are added in any order stand together by node, in that order, the same one twice too.
 #[test]
 fn any_order(rt: HostRuntime) -> Result<(), Fail> {
-    let mut builder = GraphBuilder::new(rt.alloc());
-    builder.reserve(3, 6)?;
-    let filled = fill(&mut builder, THREE.as_slice(), EDGES.as_slice())?;
-    let graph = builder.finish();
-    assert!(rt; filled && is_part(&graph, THREE.as_slice(), &[&[2, 1, 0], &[], &[1, 0, 1]]));
+    let rows: [&[u32]; 3] = [&[2, 1, 0], &[], &[1, 0, 1]];
+    let right = holds(rt.alloc(), true, THREE.as_slice(), EDGES.as_slice(), &rows)?;
+    assert!(rt; right);
     Ok(())
 }

@@ -9,6 +9,7 @@ use global_handles::Hold::{Held, Raw};
 use global_handles::Strength::{Strong, Weak};
 use global_handles::{Back, HandleFault, HandleRow, HandleTable, Hold, NotLive, Strength};
 use joint_model::{HNum, PNum};
+use std::alloc::Global;
 
 // A call, with what it answers. `Count` is of the rows that are in the table, of the handles that were made by `make`,
 // and the greatest number given.
@@ -295,43 +296,69 @@ fn restore_many(table: &mut HandleTable) -> bool {
     true
 }
 
+// The place of the first call that a new table of handles answers otherwise.
+fn miss_of(alloc: Global, calls: &[Call]) -> Option<usize> {
+    let mut table = HandleTable::new(alloc);
+    let missed = miss(&mut table, calls);
+    drop(table);
+    missed
+}
+
 #[test]
 fn clears_and_removes_the_rows_of_a_peer(rt: HostRuntime) {
-    let mut table = HandleTable::new(rt.alloc());
-    assert_eq!(rt; miss(&mut table, CLEARS.as_slice()), None);
+    assert_eq!(rt; miss_of(rt.alloc(), CLEARS.as_slice()), None);
+}
+
+#[test]
+fn makes_handles_on_the_peers_of_all_numbers(rt: HostRuntime) {
+    assert_eq!(rt; miss_of(rt.alloc(), ALL_PEERS.as_slice()), None);
+}
+
+#[test]
+fn restores_a_row_that_was_not_cleared(rt: HostRuntime) {
+    assert_eq!(rt; miss_of(rt.alloc(), RESTORES.as_slice()), None);
+}
+
+// What comes first is answered otherwise at a place, whether what is done many times goes right, and the same of what
+// comes behind.
+type Around = (Option<usize>, bool, Option<usize>);
+
+fn around_all(table: &mut HandleTable) -> Around {
+    (None, make_all(table), miss(table, IS_FULL.as_slice()))
+}
+
+fn around_restores(table: &mut HandleTable) -> Around {
+    let before = miss(table, BEFORE_RESTORES.as_slice());
+    let restored = restore_many(table);
+    (before, restored, miss(table, AFTER_RESTORES.as_slice()))
+}
+
+fn around_many(table: &mut HandleTable) -> Around {
+    let before = miss(table, BEFORE_MANY.as_slice());
+    let made = make_and_release(table);
+    (before, made, miss(table, AFTER_MANY.as_slice()))
 }
 
 #[test]
 fn is_full_once_all_were_made(rt: HostRuntime) {
     let mut table = HandleTable::new(rt.alloc());
-    assert!(rt; make_all(&mut table));
-    assert_eq!(rt; miss(&mut table, IS_FULL.as_slice()), None);
-}
-
-#[test]
-fn makes_handles_on_the_peers_of_all_numbers(rt: HostRuntime) {
-    let mut table = HandleTable::new(rt.alloc());
-    assert_eq!(rt; miss(&mut table, ALL_PEERS.as_slice()), None);
-}
-
-#[test]
-fn restores_a_row_that_was_not_cleared(rt: HostRuntime) {
-    let mut table = HandleTable::new(rt.alloc());
-    assert_eq!(rt; miss(&mut table, RESTORES.as_slice()), None);
+    let seen = around_all(&mut table);
+    drop(table);
+    assert_eq!(rt; seen, (None, true, None));
 }
 
 #[test]
 fn restores_a_million_times(rt: HostRuntime) {
     let mut table = HandleTable::new(rt.alloc());
-    assert_eq!(rt; miss(&mut table, BEFORE_RESTORES.as_slice()), None);
-    assert!(rt; restore_many(&mut table));
-    assert_eq!(rt; miss(&mut table, AFTER_RESTORES.as_slice()), None);
+    let seen = around_restores(&mut table);
+    drop(table);
+    assert_eq!(rt; seen, (None, true, None));
 }
 
 #[test]
 fn clears_what_is_left_of_many_handles(rt: HostRuntime) {
     let mut table = HandleTable::new(rt.alloc());
-    assert_eq!(rt; miss(&mut table, BEFORE_MANY.as_slice()), None);
-    assert!(rt; make_and_release(&mut table));
-    assert_eq!(rt; miss(&mut table, AFTER_MANY.as_slice()), None);
+    let seen = around_many(&mut table);
+    drop(table);
+    assert_eq!(rt; seen, (None, true, None));
 }

@@ -1,6 +1,10 @@
 // The lists of entries and the history by their first calls.
 
-ghost use Rattle.std.specs.Prelude.{◌≡◌, [], ◌∷◌, IfOk};
+ghost use Rattle.std.specs.Prelude.{◌≡◌, [], ◌∷◌, ◌++◌, List, OnOk};
+ghost use Rattle.joint_machine.specs.Shuffles.{IsJoinable};
+ghost use Rattle.joint_machine.specs.declared.names.MNum.{MNum};
+ghost use Rattle.joint_machine.specs.declared.names.PNum.{PNum};
+ghost use Rattle.joint_model.specs.Listed.{entry_lists};
 
 use joint_model::{
     Act, Alive, Cell, Counter, Draw, Entries, Entry, HNum, History, Holding, JoinFault, Made, Op,
@@ -17,24 +21,27 @@ const BEGUN: Made = Made {
     cites: None,
 };
 
-// Makes room for so many entries. Answers whether the list says so.
-fn has_room(entries: &mut Entries, n: u32) -> Result<bool, AllocError> {
-    entries.reserve(n)?;
-    Ok(entries.spare() >= n)
+// What stands in a test function itself is little: it makes a list, gives it to a function that has it by reference, and
+// lets it go by a call, so that there is one way out.
+
+// A new list has no entry, and room for one after a reserve.
+fn is_new(entries: &mut Entries) -> Result<bool, AllocError> {
+    entries.reserve(1)?;
+    Ok(entries.spare() >= 1 && entries.len() == 0 && entries.is_empty() && entries.at(0).is_none())
 }
 
 #[test]
 fn new_entries_have_room_after_a_reserve(rt: HostRuntime) -> Result<(), Fail> {
     let mut entries = Entries::new(rt.alloc(), Holding::Every);
-    let room = has_room(&mut entries, 1)?;
-    assert!(rt; room && entries.len() == 0 && entries.is_empty() && entries.at(0).is_none());
+    let held = is_new(&mut entries);
+    drop(entries);
+    assert!(rt; held?);
     Ok(())
 }
 
-#[test]
-fn drawn_entries_are_kept(rt: HostRuntime) -> Result<(), Fail> {
+// Whether two entries that are drawn one after the other are kept, by their numbers.
+fn keeps_drawn(entries: &mut Entries) -> Result<bool, AllocError> {
     let mut counter = Counter::new();
-    let mut entries = Entries::new(rt.alloc(), Holding::Every);
     entries.reserve(2)?;
     let number = counter.draw(&BEGUN, None, &[]);
     entries.push(Entry {
@@ -46,8 +53,23 @@ fn drawn_entries_are_kept(rt: HostRuntime) -> Result<(), Fail> {
         number,
         made: BEGUN,
     });
-    assert!(rt; entries.len() == 2 && !entries.is_empty());
-    assert!(rt; entries.at(1).is_some_and(|entry| entry.number == 1) && entries.at(2).is_none());
+    Ok(has_two(entries))
+}
+
+fn has_two(entries: &Entries) -> bool {
+    let second = match entries.at(1) {
+        Some(entry) => entry.number == 1,
+        None => false,
+    };
+    second && entries.len() == 2 && !entries.is_empty() && entries.at(2).is_none()
+}
+
+#[test]
+fn drawn_entries_are_kept(rt: HostRuntime) -> Result<(), Fail> {
+    let mut entries = Entries::new(rt.alloc(), Holding::Every);
+    let held = keeps_drawn(&mut entries);
+    drop(entries);
+    assert!(rt; held?);
     Ok(())
 }
 
@@ -79,34 +101,56 @@ fn add_in_turn(entries: &mut Entries, count: u32) -> Result<(), AllocError> {
     Ok(())
 }
 
+// Whether a list counts the entries that were added, and has room for more.
+fn counts_all(entries: &mut Entries) -> Result<bool, AllocError> {
+    add_in_turn(entries, 700)?;
+    entries.reserve(5_000)?;
+    Ok(entries.spare() >= 5_000 && entries.len() == 700)
+}
+
 #[test]
 fn a_list_that_holds_the_last_entries_counts_all(rt: HostRuntime) -> Result<(), Fail> {
     let mut entries = Entries::new(rt.alloc(), Holding::Last);
-    add_in_turn(&mut entries, 700)?;
-    let room = has_room(&mut entries, 5_000)?;
-    assert!(rt; room && entries.len() == 700);
+    let held = counts_all(&mut entries);
+    drop(entries);
+    assert!(rt; held?);
     Ok(())
+}
+
+// Whether each entry that was added is found by its place.
+fn finds_all(entries: &mut Entries) -> Result<bool, AllocError> {
+    add_in_turn(entries, 700)?;
+    for i in 0..700u32 {
+        match entries.at(i) {
+            Some(entry) if entry == weakened(i as u64, i) => {}
+            _ => return Ok(false),
+        }
+    }
+    Ok(entries.at(700).is_none())
 }
 
 #[test]
 fn each_entry_of_both_calls_is_found_by_its_place(rt: HostRuntime) -> Result<(), Fail> {
     let mut entries = Entries::new(rt.alloc(), Holding::Every);
-    add_in_turn(&mut entries, 700)?;
-    let all = (0..700u32).all(|i| entries
-        .at(i)
-        .is_some_and(|entry| entry == weakened(i as u64, i)));
-    assert!(rt; all && entries.at(700).is_none());
+    let held = finds_all(&mut entries);
+    drop(entries);
+    assert!(rt; held?);
     Ok(())
+}
+
+// Whether a value that is pushed is found by its place.
+fn has_each(alloc: Global) -> Result<bool, AllocError> {
+    let mut alive = Alive::new(alloc, 2)?;
+    let empty = alive.is_empty();
+    alive.push(Some(HNum(9)));
+    alive.push(None);
+    let both = (alive.at(0), alive.at(1), alive.at(2)) == (Some(Some(HNum(9))), Some(None), None);
+    Ok(empty && both && alive.len() == 2)
 }
 
 #[test]
 fn alive_has_a_value_for_each_push(rt: HostRuntime) -> Result<(), Fail> {
-    let mut alive = Alive::new(rt.alloc(), 2)?;
-    assert!(rt; alive.is_empty());
-    alive.push(Some(HNum(9)));
-    alive.push(None);
-    assert!(rt; alive.at(0) == Some(Some(HNum(9))) && alive.at(1) == Some(None));
-    assert!(rt; alive.at(2).is_none() && alive.len() == 2);
+    assert!(rt; has_each(rt.alloc())?);
     Ok(())
 }
 
@@ -135,89 +179,136 @@ fn no_lists_join_to_the_empty_history(rt: HostRuntime) -> Result<(), Fail> {
     Ok(())
 }
 
-// A list without entries, and one with one entry.
-fn empty(alloc: Global) -> Entries
-    ensures { result.entries ≡ [] }
-{
-    Entries::new(alloc, Holding::Every)
-}
-
-// It is room for more that lets the entry go, where the list holds the last ones alone.
-fn single(
-    alloc: Global,
-    holding: Holding,
-    number: u64,
-    caller: Thread,
-    op: Op,
-) -> Result<Entries, AllocError>
-    ensures { IfOk result (λ s. s.entries
+// An entry of line 7, which is answered `gone`.
+fn gone(number: u64, caller: Thread, op: Op) -> Entry
+    ensures { result
         ≡ record {
           number = number;
           made =
               record { caller = caller; index = 7; op = op; reply = Reply.Gone; cites = None };
-        } ∷ []) }
+        } }
 {
-    let made = Made {
-        caller,
-        index: 7,
-        op,
-        reply: Reply::Gone,
-        cites: None,
-    };
-    let mut entries = Entries::new(alloc, holding);
-    entries.reserve(1)?;
-    entries.push(Entry { number, made });
-    entries.reserve(5_000)?;
-    Ok(entries)
+    Entry {
+        number,
+        made: Made {
+            caller,
+            index: 7,
+            op,
+            reply: Reply::Gone,
+            cites: None,
+        },
+    }
 }
 
-// Joins ten lists: an entry of each side, and one of two readers each. Answers `AllocError` where there is no memory
-// for the lists.
-fn join_ten(alloc: Global, holding: Holding) -> Result<Result<History, JoinFault>, AllocError> {
-    let lists = vec![in alloc;
-        single(
-            alloc,
-            holding,
-            2,
-            Thread::M(1),
-            Op::Line(Act::Drop { v: Var(0) })
-        )?,
-        single(alloc, holding, 1, Thread::C, Op::Begin)?,
-        empty(alloc),
-        single(
-            alloc,
-            holding,
-            3,
-            Thread::M(2),
-            Op::Line(Act::Read { k: Cell(0) })
-        )?,
-        empty(alloc),
-        empty(alloc),
-        empty(alloc),
-        single(
-            alloc,
-            holding,
-            0,
-            Thread::M(6),
-            Op::Line(Act::Await { k: Cell(1) })
-        )?,
-        empty(alloc),
-        empty(alloc),
-    ]?;
-    Ok(History::join(
-        alloc,
+// Adds an entry. It is room for more that lets the entry go, where the list holds the last ones alone.
+fn add(entries: &mut Entries, entry: Entry) -> Result<(), AllocError>
+    ensures { OnOk result (entries.new.entries ≡ entries.old.entries ++ entry ∷ []) }
+{
+    entries.reserve(1)?;
+    entries.push(entry);
+    entries.reserve(5_000)
+}
+
+// Puts a list without entries behind these lists.
+fn put_empty(lists: &mut Vec<Entries>, alloc: Global) -> Result<(), AllocError>
+    ensures { OnOk result (entry_lists lists.new.items ≡ entry_lists lists.old.items ++ [] ∷ []) }
+{
+    lists.push(Entries::new(alloc, Holding::Every))?;
+    Ok(())
+}
+
+// Puts a list of one entry behind these lists.
+fn put(
+    lists: &mut Vec<Entries>,
+    alloc: Global,
+    holding: Holding,
+    entry: Entry,
+) -> Result<(), AllocError>
+    ensures { OnOk result
+        (entry_lists lists.new.items ≡ entry_lists lists.old.items ++ (entry ∷ []) ∷ []) }
+{
+    let mut entries = Entries::new(alloc, holding);
+    match add(&mut entries, entry) {
+        Ok(()) => {
+            lists.push(entries)?;
+            Ok(())
+        }
+        Err(failed) => {
+            drop(entries);
+            Err(failed)
+        }
+    }
+}
+
+// Puts ten lists there: an entry of each side, and one of two readers each.
+fn put_ten(lists: &mut Vec<Entries>, alloc: Global, holding: Holding) -> Result<(), AllocError>
+    requires { lists.old.items ≡ [] }
+    ensures { OnOk result ((ms : List MNum) (ps : List PNum) (ns : List MNum)
+        → IsJoinable (entry_lists lists.new.items) ms ps ns) }
+{
+    let (dropping, reading) = (Act::Drop { v: Var(0) }, Act::Read { k: Cell(0) });
+    let awaiting = Act::Await { k: Cell(1) };
+    put(
         lists,
-        Vec::new(alloc),
-        Vec::new(alloc),
-        Vec::new(alloc),
-    ))
+        alloc,
+        holding,
+        gone(2, Thread::M(1), Op::Line(dropping)),
+    )?;
+    put(lists, alloc, holding, gone(1, Thread::C, Op::Begin))?;
+    put_empty(lists, alloc)?;
+    put(
+        lists,
+        alloc,
+        holding,
+        gone(3, Thread::M(2), Op::Line(reading)),
+    )?;
+    put_empty(lists, alloc)?;
+    put_empty(lists, alloc)?;
+    put_empty(lists, alloc)?;
+    put(
+        lists,
+        alloc,
+        holding,
+        gone(0, Thread::M(6), Op::Line(awaiting)),
+    )?;
+    put_empty(lists, alloc)?;
+    put_empty(lists, alloc)?;
+    Ok(())
+}
+
+// Joins ten lists. Answers `AllocError` where there is no memory for the lists.
+fn join_ten(alloc: Global, holding: Holding) -> Result<Result<History, JoinFault>, AllocError> {
+    let mut lists = Vec::new(alloc);
+    match put_ten(&mut lists, alloc, holding) {
+        Ok(()) => Ok(History::join(
+            alloc,
+            lists,
+            Vec::new(alloc),
+            Vec::new(alloc),
+            Vec::new(alloc),
+        )),
+        Err(failed) => {
+            drop(lists);
+            Err(failed)
+        }
+    }
+}
+
+// Whether a history has four entries, each at its number.
+fn has_four(history: &History) -> bool {
+    for i in 0..4u64 {
+        match history.entry(i) {
+            Some(entry) if entry.number == i => {}
+            _ => return false,
+        }
+    }
+    history.len() == 4 && history.entry(4).is_none()
 }
 
 #[test]
 fn ten_lists_join_to_one_history(rt: HostRuntime) -> Result<(), Fail> {
     let history = join_ten(rt.alloc(), Holding::Every)??;
-    let all = (0..4u64).all(|i| history.entry(i).is_some_and(|entry| entry.number == i));
-    assert!(rt; all && history.len() == 4 && history.entry(4).is_none());
+    assert!(rt; has_four(&history));
     Ok(())
 }
 

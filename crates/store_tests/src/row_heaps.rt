@@ -3,6 +3,7 @@
 ghost use Rattle.std.specs.Prelude.{◌≡◌, [], OnOk};
 ghost use Rattle.joint_machine.specs.Heaps.{IsLive};
 ghost use Rattle.row_heap.specs.Marks.{AreEndsLive};
+ghost use Rattle.row_heap.specs.Rows.{opening_rows};
 
 use heap_rules::Done::{self, Empty, Null, Object, Range};
 use joint_model::{PNum, VARS};
@@ -83,11 +84,21 @@ fn has_two(heap: &RowHeap<PNum>) -> bool {
         && (heap.made(), heap.live(), heap.is_full()) == (2, 2, false)
 }
 
+// The place of the first call that a heap answers otherwise, and whether it is then as it should be.
+fn plays(heap: &mut RowHeap<PNum>) -> Result<(Option<usize>, bool), AllocError> {
+    let missed = miss(heap)?;
+    Ok((missed, has_two(heap)))
+}
+
+// A test makes a new heap, gives it to a function that has it by reference, and lets it go by a call: what goes out of
+// scope at a `?` is dropped there field by field, which is dear to prove.
+
 #[test]
 fn operations_answer_as_the_table_says(rt: HostRuntime) -> Result<(), AllocError> {
     let mut heap: RowHeap<PNum> = RowHeap::new(rt.alloc());
-    assert_eq!(rt; miss(&mut heap)?, None);
-    assert!(rt; has_two(&heap));
+    let seen = plays(&mut heap);
+    drop(heap);
+    assert_eq!(rt; seen?, (None, true));
     Ok(())
 }
 
@@ -105,60 +116,94 @@ fn refer_over(heap: &mut RowHeap<PNum>, first: u32, second: u32) -> Result<(), A
     Ok(())
 }
 
+// How many references there are, and once they are cleared.
+fn takes(heap: &mut RowHeap<PNum>) -> Result<(usize, usize), AllocError>
+    requires { heap.old ≡ opening_rows }
+{
+    let first = heap.add_object(0)?;
+    let second = heap.add_object(0)?;
+    refer_over(heap, first, second)?;
+    let taken = heap.references_len();
+    heap.clear_references();
+    Ok((taken, heap.references_len()))
+}
+
 #[test]
 fn takes_references(rt: HostRuntime) -> Result<(), AllocError> {
     let mut heap: RowHeap<PNum> = RowHeap::new(rt.alloc());
-    let first = heap.add_object(0)?;
-    let second = heap.add_object(0)?;
-    refer_over(&mut heap, first, second)?;
-    assert_eq!(rt; heap.references_len(), 2);
-    heap.clear_references();
-    assert_eq!(rt; heap.references_len(), 0);
+    let seen = takes(&mut heap);
+    drop(heap);
+    assert_eq!(rt; seen?, (2, 0));
     Ok(())
 }
 
-// A scan of the object that refers to a temporary makes the one grey that the temporary leads to, and no other.
-#[test]
-fn marks_over_a_temporary(rt: HostRuntime) -> Result<(), AllocError> {
-    let mut heap: RowHeap<PNum> = RowHeap::new(rt.alloc());
+// Whether a scan of the object that refers to a temporary makes the one grey that the temporary leads to, and no other.
+fn marks(heap: &mut RowHeap<PNum>) -> Result<bool, AllocError>
+    requires { heap.old ≡ opening_rows }
+{
     let first = heap.add_object(0)?;
     let second = heap.add_object(0)?;
     let third = heap.add_object(0)?;
-    refer_over(&mut heap, first, second)?;
+    refer_over(heap, first, second)?;
     heap.begin_marking(true);
     let mut grey = 0;
-    visit(&mut heap, first, &mut grey);
-    assert_eq!(rt; (grey, heap.is_marked(second)), (first, false));
-    assert_eq!(rt; heap.mark_some(&mut grey, 1), 1);
-    assert_eq!(rt; (grey, heap.is_marked(second)), (second, true));
-    assert_eq!(rt; heap.is_marked(third), false);
+    visit(heap, first, &mut grey);
+    let before = grey == first && !heap.is_marked(second);
+    let scanned = heap.mark_some(&mut grey, 1);
+    let after = grey == second && heap.is_marked(second) && !heap.is_marked(third);
+    Ok(before && scanned == 1 && after)
+}
+
+#[test]
+fn marks_over_a_temporary(rt: HostRuntime) -> Result<(), AllocError> {
+    let mut heap: RowHeap<PNum> = RowHeap::new(rt.alloc());
+    let held = marks(&mut heap);
+    drop(heap);
+    assert!(rt; held?);
     Ok(())
 }
 
-// What references lead to is shaded though the object that they lead from has no mark, and the marking follows none.
-#[test]
-fn shades_references(rt: HostRuntime) -> Result<(), AllocError> {
-    let mut heap: RowHeap<PNum> = RowHeap::new(rt.alloc());
+// Whether what references lead to is shaded though the object that they lead from has no mark, and the marking follows
+// none.
+fn shades(heap: &mut RowHeap<PNum>) -> Result<bool, AllocError>
+    requires { heap.old ≡ opening_rows }
+{
     let first = heap.add_object(0)?;
     let second = heap.add_object(0)?;
-    refer_over(&mut heap, first, second)?;
+    refer_over(heap, first, second)?;
     heap.begin_marking(false);
     let mut grey = 0;
     heap.shade_references(&mut grey);
-    assert_eq!(rt; (grey, heap.is_marked(second)), (second, true));
-    assert_eq!(rt; heap.is_marked(first), false);
+    Ok(grey == second && heap.is_marked(second) && !heap.is_marked(first))
+}
+
+#[test]
+fn shades_references(rt: HostRuntime) -> Result<(), AllocError> {
+    let mut heap: RowHeap<PNum> = RowHeap::new(rt.alloc());
+    let held = shades(&mut heap);
+    drop(heap);
+    assert!(rt; held?);
     Ok(())
+}
+
+// Whether the one object is freed, which has no mark once a marking began.
+fn sweeps(heap: &mut RowHeap<PNum>) -> Result<bool, AllocError>
+    requires { heap.old ≡ opening_rows }
+{
+    let first = heap.add_object(0)?;
+    let made = heap.is_marked(first);
+    heap.begin_marking(false);
+    let white = !heap.is_marked(first);
+    heap.sweep();
+    let gone = !heap.is_live(first) && heap.live() == 0 && heap.freed().len() == 1;
+    Ok(made && white && gone)
 }
 
 #[test]
 fn sweeps_what_has_no_mark(rt: HostRuntime) -> Result<(), AllocError> {
     let mut heap: RowHeap<PNum> = RowHeap::new(rt.alloc());
-    let first = heap.add_object(0)?;
-    assert_eq!(rt; heap.is_marked(first), true);
-    heap.begin_marking(false);
-    assert_eq!(rt; heap.is_marked(first), false);
-    heap.sweep();
-    assert_eq!(rt; heap.is_live(first), false);
-    assert_eq!(rt; (heap.live(), heap.freed().len()), (0, 1));
+    let held = sweeps(&mut heap);
+    drop(heap);
+    assert!(rt; held?);
     Ok(())
 }
