@@ -192,10 +192,12 @@ fn seen_of<N: OrderName, R: Wait>(
         gaps: 0,
         answer: Ok(None),
     };
-    match run_with_gaps(rt, alloc, &shared, &mut one, &mut driver, &mut between) {
-        Ok(seen) => Ok(Some(seen)),
-        Err(fault) => Err(fault),
-    }
+    let seen = run_with_gaps(rt, alloc, &shared, &mut one, &mut driver, &mut between);
+    drop(between);
+    drop(driver);
+    drop(one);
+    drop(shared);
+    Ok(Some(seen?))
 }
 
 // The same, with a new order.

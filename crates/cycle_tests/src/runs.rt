@@ -250,6 +250,7 @@ impl<N: OrderName> DrivenBridge<N> {
         } = self;
         assert!(rt; driver.phase() == Phase::Idle);
         let Ok(callers) = vec![in alloc; driver.retire(), two, one] else {
+            drop(desk);
             drop(shared);
             return Err(AllocError);
         };
@@ -269,12 +270,21 @@ pub(crate) fn start<N: OrderName>(
 {
     let (shared, mut desk) = Shared::<N, Alone>::new(alloc, order, seat, 1, 1, Holding::Every)?;
     let Some(one) = desk.caller(Thread::M(1)) else {
+        drop(desk);
+        drop(shared);
         return Ok(None);
     };
     let Some(two) = desk.caller(Thread::P(1)) else {
+        drop(one);
+        drop(desk);
+        drop(shared);
         return Ok(None);
     };
     let Some(caller) = desk.caller(Thread::C) else {
+        drop(two);
+        drop(one);
+        drop(desk);
+        drop(shared);
         return Ok(None);
     };
     let driver = Driver::new(caller);
@@ -303,7 +313,9 @@ fn miss_of<N: OrderName>(
     let Some(mut driven) = start::<N>(alloc, order, seat)? else {
         return Ok(None);
     };
-    Ok(Some(driven.first_miss(rt, alloc, rows)?))
+    let missed = driven.first_miss(rt, alloc, rows);
+    drop(driven);
+    Ok(Some(missed?))
 }
 
 // The same, with a new order.
