@@ -12,6 +12,18 @@ use std::alloc::{AllocError, Global};
 use std::marker::Brand;
 use std::test::Fail;
 
+// The thread of the caller that the desk gives for a thread; None where it gives none.
+fn thread_given<N: OrderName>(desk: &mut Desk<N>, t: Thread) -> Option<Thread> {
+    match desk.caller(t) {
+        Some(caller) => {
+            let thread = caller.thread();
+            drop(caller);
+            Some(thread)
+        }
+        None => None,
+    }
+}
+
 // For each thread in turn, the thread of the caller that the desk gives; None where it gives none.
 fn given_by<N: OrderName>(
     alloc: Global,
@@ -20,11 +32,7 @@ fn given_by<N: OrderName>(
 ) -> Result<Vec<Option<Thread>>, AllocError> {
     let mut given = Vec::new(alloc);
     for t in threads {
-        let thread = match desk.caller(*t) {
-            Some(caller) => Some(caller.thread()),
-            None => None,
-        };
-        given.push(thread)?;
+        given.push(thread_given(desk, *t))?;
     }
     Ok(given)
 }
@@ -42,6 +50,7 @@ fn given<N: OrderName>(
 {
     let (shared, mut desk) = Shared::<N, Locks>::new(alloc, order, seat, 1, 2, Holding::Every)?;
     let given = given_by(alloc, &mut desk, threads);
+    drop(desk);
     drop(shared);
     given
 }

@@ -40,11 +40,13 @@ fn stay(doors: &Doors, mut seat: Seat, reader: u8) -> u32
     requires reader { (0 < reader) × (reader < 9) × Owns seat.view (1 + reader) }
 {
     let Ok(()) = doors.order.enter(&mut seat, reader) else {
+        drop(seat);
         return 0;
     };
     doors.inside.fetch_add(1, Ordering::SeqCst);
     wait_for(&doors.tried, 1);
     doors.order.leave(&mut seat, reader);
+    drop(seat);
     1
 }
 
@@ -56,6 +58,7 @@ fn close(doors: &Doors, mut seat: Seat) -> u32
     wait_for(&doors.inside, 2);
     let tried = doors.order.try_close_gate(&mut seat, Cycle(1));
     doors.tried.store(1, Ordering::SeqCst);
+    drop(seat);
     match tried {
         Ok(()) => 0,
         Err(readers) => readers.count,
@@ -132,7 +135,9 @@ fn run<R: Threads + Sync>(rt: &R, alloc: Global) -> Result<Vec<u32>, AllocError>
         inside: AtomicU64::new(0),
         tried: AtomicU64::new(0),
     };
-    visit_all(rt, &doors, visitors)
+    let seen = visit_all(rt, &doors, visitors);
+    drop(doors);
+    seen
 }
 
 #[test]

@@ -93,10 +93,12 @@ fn run<N: OrderName>(
             Ok(Some((refused, history)))
         }
         Ok(None) => {
+            drop(desk);
             drop(shared);
             Ok(None)
         }
         Err(fault) => {
+            drop(desk);
             drop(shared);
             Err(fault)
         }
@@ -105,12 +107,12 @@ fn run<N: OrderName>(
 
 // Whether a second event of an operation follows this entry.
 fn is_first(entry: &Entry) -> bool {
-    matches!(
-        (entry.made.op, entry.made.reply),
-        (Op::Make { .. }, Reply::Made(..))
-            | (Op::Lend { .. }, Reply::H(_))
-            | (Op::Grip { .. }, Reply::Gripped(..))
-    )
+    match entry.made.op {
+        Op::Make { .. } => matches!(entry.made.reply, Reply::Made(..)),
+        Op::Lend { .. } => matches!(entry.made.reply, Reply::H(_)),
+        Op::Grip { .. } => matches!(entry.made.reply, Reply::Gripped(..)),
+        _ => false,
+    }
 }
 
 // How many entries that ask for a second one stand without it: the next entry doesn't cite them.

@@ -57,17 +57,19 @@ fn stay_at(n: u8, cell: u8, place: u32) -> Act
 {
     let (a, b) = (Var(0), Var(1));
     let k = Cell((place / 4 % 8) as u8 * 8 + cell);
-    match (place, place % 4) {
-        (0, _) => bridge(a),
-        (1, _) => Act::Weak {
+    match place {
+        0 => bridge(a),
+        1 => Act::Weak {
             k: Cell((n - 1) * 8 + cell),
             v: a,
         },
-        (100, _) => Act::Drop { v: a },
-        (_, 0) => Act::Read { k },
-        (_, 1) => Act::Await { k },
-        (_, 2) => Act::Take { v: b },
-        _ => Act::Drop { v: b },
+        100 => Act::Drop { v: a },
+        _ => match place % 4 {
+            0 => Act::Read { k },
+            1 => Act::Await { k },
+            2 => Act::Take { v: b },
+            _ => Act::Drop { v: b },
+        },
     }
 }
 
@@ -79,15 +81,18 @@ fn hold_at(n: u8, line: u32) -> Act
     let (a, b) = (Var(0), Var(1));
     let own = Cell(n - 1);
     let other = Cell(((n as u32 + line / 4) % 8) as u8);
-    match (line, line % 4) {
-        (0, _) => bridge(a),
-        (1, _) => Act::Weak { k: own, v: a },
-        (2, _) => Act::Await { k: own },
-        (3, _) => Act::Drop { v: a },
-        (_, 0) if line >= 60 => Act::Take { v: b },
-        (_, 1) if line >= 60 => Act::Drop { v: b },
-        (_, 2) if line >= 60 => Act::Await { k: other },
-        _ => Act::Read { k: other },
+    match line {
+        0 => bridge(a),
+        1 => Act::Weak { k: own, v: a },
+        2 => Act::Await { k: own },
+        3 => Act::Drop { v: a },
+        _ if line < 60 => Act::Read { k: other },
+        _ => match line % 4 {
+            0 => Act::Take { v: b },
+            1 => Act::Drop { v: b },
+            2 => Act::Await { k: other },
+            _ => Act::Read { k: other },
+        },
     }
 }
 
@@ -174,7 +179,10 @@ fn make_lines<N: OrderName>(
     let mut caller = caller;
     for line in 0..plan.lines() {
         let act = plan.act_at(n, line);
-        make_line(rt, shared, &mut caller, line + 1, &act)?;
+        if make_line(rt, shared, &mut caller, line + 1, &act).is_err() {
+            drop(caller);
+            return Err(AllocError);
+        }
     }
     Ok(caller)
 }
@@ -213,9 +221,9 @@ fn drive<N: OrderName>(
 {
     let mut driver = Driver::new(caller);
     let made = make_cycles(rt, alloc, shared, &mut driver, cycles);
-    driver.end(rt, alloc, shared, cycles)?;
-    made?;
-    if driver.phase() != Phase::Idle {
+    let ended = driver.end(rt, alloc, shared, cycles);
+    if made.is_err() || ended.is_err() || driver.phase() != Phase::Idle {
+        drop(driver);
         return Err(AllocError);
     }
     Ok(driver.retire())
@@ -310,6 +318,7 @@ fn run<N: OrderName + Send + Sync, R: Threads + Wait + Sync>(
     match play(rt, alloc, &shared, &mut desk, plan) {
         Ok(callers) => shared.finish(desk, callers).map_err(|_| AllocError),
         Err(fault) => {
+            drop(desk);
             drop(shared);
             Err(fault)
         }
@@ -408,6 +417,13 @@ fn is_step(entry: &Entry) -> bool {
 // there is none.
 fn first_unlawful(alloc: Global, history: &History) -> Result<Option<u64>, AllocError> {
     let mut state = JointState::new(alloc)?;
+    let found = unlawful_for(&mut state, history);
+    drop(state);
+    found
+}
+
+// The same from the first state on.
+fn unlawful_for(state: &mut JointState, history: &History) -> Result<Option<u64>, AllocError> {
     for i in 0..history.len() {
         let judged = state.replay_step(history, i)?;
         let is_due = history.entry(i).is_some_and(|entry| is_step(&entry));
@@ -452,28 +468,44 @@ fn eight_threads_read_at_once_while_cycles_go_on(rt: HostRuntime) -> Result<(), 
 // The objects in the pins of m1 to m8, by the thread's number; 0 where a pin is empty.
 type Pins = [u32; 9];
 
+// What the pin of an entry's thread has behind it, where the entry sets it: the object that a read gave, or nothing after
+// a `take`.
+fn pin_after(entry: &Entry) -> Option<u32> {
+    match entry.made.op {
+        Op::Line(Act::Read { .. } | Act::Await { .. }) => match entry.made.reply {
+            Reply::M(m) => Some(m.0),
+            _ => None,
+        },
+        Op::Line(Act::Take { .. }) => Some(0),
+        _ => None,
+    }
+}
+
 // With one entry more.
 fn pins_after(pins: Pins, entry: &Entry) -> Pins {
     let Thread::M(n) = entry.made.caller else {
         return pins;
     };
     let mut pins = pins;
-    match (entry.made.op, entry.made.reply) {
-        (Op::Line(Act::Read { .. } | Act::Await { .. }), Reply::M(m)) => {
-            pins[(n % 9) as usize] = m.0;
-        }
-        (Op::Line(Act::Take { .. }), _) => pins[(n % 9) as usize] = 0,
-        _ => {}
+    if let Some(pin) = pin_after(entry) {
+        pins[(n % 9) as usize] = pin;
     }
     pins
 }
 
 // Which of the freed managed objects an entry freed.
 fn freed_by(entry: &Entry) -> Span {
-    match (entry.made.op, entry.made.reply) {
-        (Op::Snap { .. }, Reply::Snapped(_, span)) => span,
-        (Op::Resolve { .. }, Reply::Freed(span)) => span,
-        _ => Span { first: 0, count: 0 },
+    let none = Span { first: 0, count: 0 };
+    match entry.made.op {
+        Op::Snap { .. } => match entry.made.reply {
+            Reply::Snapped(_, span) => span,
+            _ => none,
+        },
+        Op::Resolve { .. } => match entry.made.reply {
+            Reply::Freed(span) => span,
+            _ => none,
+        },
+        _ => none,
     }
 }
 

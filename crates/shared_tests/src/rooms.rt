@@ -76,7 +76,13 @@ fn play<N: OrderName>(
     let Some(mut one) = desk.caller(Thread::M(1)) else {
         return Ok(None);
     };
-    let refused = set_and_read(rt, shared, &mut one)?;
+    let refused = match set_and_read(rt, shared, &mut one) {
+        Ok(refused) => refused,
+        Err(failed) => {
+            drop(one);
+            return Err(failed);
+        }
+    };
     let callers = vec![in alloc; one]?;
     Ok(Some((refused, callers)))
 }
@@ -96,14 +102,17 @@ fn run<N: OrderName>(
     match play(rt, alloc, &shared, &mut desk) {
         Ok(Some((refused, callers))) => {
             let history = shared.finish(desk, callers).map_err(|_| AllocError)?;
-            let made = replies_of(alloc, &history)?;
-            Ok(Some((refused, made)))
+            let made = replies_of(alloc, &history);
+            drop(history);
+            Ok(Some((refused, made?)))
         }
         Ok(None) => {
+            drop(desk);
             drop(shared);
             Ok(None)
         }
         Err(fault) => {
+            drop(desk);
             drop(shared);
             Err(fault)
         }

@@ -185,6 +185,27 @@ pub(crate) fn replies_of(alloc: Global, history: &History) -> Result<Vec<Reply>,
     Ok(replies)
 }
 
+// The same of a history that ends then.
+fn replies_and_end(alloc: Global, history: History) -> Result<Vec<Reply>, AllocError> {
+    let replies = replies_of(alloc, &history);
+    drop(history);
+    replies
+}
+
+// The replies of the operations with those of all entries, if there was memory for these.
+fn with_told(
+    told: Vec<Reply>,
+    made: Result<Vec<Reply>, AllocError>,
+) -> Result<Option<(Vec<Reply>, Vec<Reply>)>, AllocError> {
+    match made {
+        Ok(made) => Ok(Some((told, made))),
+        Err(failed) => {
+            drop(told);
+            Err(failed)
+        }
+    }
+}
+
 // The callers after their operations, and the replies of these; None where the desk gives a thread no caller.
 fn play<N: OrderName>(
     rt: &impl Wait,
@@ -200,9 +221,17 @@ fn play<N: OrderName>(
         return Ok(None);
     };
     let Some(mut two) = desk.caller(Thread::P(1)) else {
+        drop(one);
         return Ok(None);
     };
-    let told = run_lines(rt, alloc, shared, &mut one, &mut two)?;
+    let told = match run_lines(rt, alloc, shared, &mut one, &mut two) {
+        Ok(told) => told,
+        Err(failed) => {
+            drop(two);
+            drop(one);
+            return Err(failed);
+        }
+    };
     let callers = vec![in alloc; two, one]?;
     Ok(Some((callers, told)))
 }
@@ -221,15 +250,19 @@ fn run<N: OrderName>(
     let (shared, mut desk) = Shared::<N, Alone>::new(alloc, order, seat, 1, 1, Holding::Every)?;
     match play(rt, alloc, &shared, &mut desk) {
         Ok(Some((callers, told))) => {
-            let history = shared.finish(desk, callers).map_err(|_| AllocError)?;
-            let made = replies_of(alloc, &history)?;
-            Ok(Some((told, made)))
+            let made = match shared.finish(desk, callers) {
+                Ok(history) => replies_and_end(alloc, history),
+                Err(_) => Err(AllocError),
+            };
+            with_told(told, made)
         }
         Ok(None) => {
+            drop(desk);
             drop(shared);
             Ok(None)
         }
         Err(fault) => {
+            drop(desk);
             drop(shared);
             Err(fault)
         }

@@ -198,6 +198,7 @@ fn run<N: OrderName + Send + Sync, R: Threads + Wait + Sync>(
     match play(rt, alloc, &shared, &mut desk, lines) {
         Ok(callers) => shared.finish(desk, callers).map_err(|_| AllocError),
         Err(fault) => {
+            drop(desk);
             drop(shared);
             Err(fault)
         }
@@ -214,24 +215,41 @@ struct SeenOfSlices {
     swept: u32,
 }
 
+// With one slice more.
+fn seen_slice(seen: SeenOfSlices, reply: Reply) -> SeenOfSlices {
+    match reply {
+        Reply::More => SeenOfSlices {
+            more: seen.more.wrapping_add(1),
+            ended: false,
+            ..seen
+        },
+        Reply::Done => SeenOfSlices {
+            done: seen.done.wrapping_add(1),
+            ended: true,
+            ..seen
+        },
+        _ => seen,
+    }
+}
+
+// How many peers a sweep freed; one, where the reply is none of a sweep.
+fn freed_by(reply: Reply) -> u32 {
+    match reply {
+        Reply::Swept(_, span) => span.count,
+        _ => 1,
+    }
+}
+
 // With one entry more.
 fn seen_after(seen: SeenOfSlices, entry: &Entry) -> SeenOfSlices {
-    let mut seen = seen;
-    match (entry.made.op, entry.made.reply) {
-        (Op::Line(Act::Slice { .. }), Reply::More) => {
-            seen.more = seen.more.wrapping_add(1);
-            seen.ended = false;
-        }
-        (Op::Line(Act::Slice { .. }), Reply::Done) => {
-            seen.done = seen.done.wrapping_add(1);
-            seen.ended = true;
-        }
-        (Op::Sweep, Reply::Swept(_, span)) if span.count == 0 => {
-            seen.swept = seen.swept.wrapping_add(1);
-        }
-        _ => {}
+    match entry.made.op {
+        Op::Line(Act::Slice { .. }) => seen_slice(seen, entry.made.reply),
+        Op::Sweep if freed_by(entry.made.reply) == 0 => SeenOfSlices {
+            swept: seen.swept.wrapping_add(1),
+            ..seen
+        },
+        _ => seen,
     }
-    seen
 }
 
 // What is seen of the marking in a history.

@@ -13,8 +13,8 @@ ghost use Rattle.shared_tests.specs.Starts.{IsStarting};
 use crate::given::callers_from;
 use joint_history::{Caller, Desk, Locks, Shared};
 use joint_model::{
-    Act, Cell, Entry, GName, History, Holding, Kind, Marking, Op, Reply, Sort, StaticNo, Thread,
-    Var,
+    Act, Cell, Entry, GName, History, Holding, Kind, Made, Marking, Op, Reply, Sort, StaticNo,
+    Thread, Var,
 };
 use joint_replay::{JointState, Verdict};
 use order_table::{Order, OrderName, Seat};
@@ -199,6 +199,7 @@ fn run<N: OrderName + Send + Sync, R: Threads + Wait + Sync>(
     match play(rt, alloc, &shared, &mut desk, lines) {
         Ok(callers) => shared.finish(desk, callers).map_err(|_| AllocError),
         Err(fault) => {
+            drop(desk);
             drop(shared);
             Err(fault)
         }
@@ -266,25 +267,33 @@ fn seen_of(history: &History, t: Thread) -> SeenOfThread {
     seen
 }
 
-// With one entry more, by the marking that the entry before it on the peer side began, and its thread.
-fn told_after(told: SeenOfAll, open: Option<(Marking, Thread)>, entry: &Entry) -> SeenOfAll {
-    let (m, by) = (entry.made, entry.made.caller);
+// With the reply of one entry more, by the marking that the entry before it on the peer side began, and its thread. A
+// begin alone is answered by a marking, and a sweep alone by what it freed.
+fn told_reply(told: SeenOfAll, open: Option<(Marking, Thread)>, made: &Made) -> SeenOfAll {
     let mut told = told;
-    match (m.op, m.reply) {
-        (Op::Begin, Reply::Mark(j)) => {
+    match made.reply {
+        Reply::Mark(j) => {
             told.collections = told.collections.wrapping_add(1);
-            told.whole = told.whole && j == Marking(told.collections) && open.is_none();
+            let next = j == Marking(told.collections) && made.op == Op::Begin;
+            told.whole = told.whole && next && open.is_none();
         }
-        (Op::Sweep, Reply::Swept(j, span)) => {
-            told.whole = told.whole && open == Some((j, by)) && span.first == told.freed;
+        Reply::Swept(j, span) => {
+            let own = open == Some((j, made.caller)) && made.op == Op::Sweep;
+            told.whole = told.whole && own && span.first == told.freed;
             told.freed = told.freed.wrapping_add(span.count);
         }
-        (_, Reply::Twin(_)) => told.twins = told.twins.wrapping_add(1),
-        (_, Reply::New(_)) => told.anew = told.anew.wrapping_add(1),
-        (_, Reply::Unset) => told.unset = told.unset.wrapping_add(1),
+        Reply::Twin(_) => told.twins = told.twins.wrapping_add(1),
+        Reply::New(_) => told.anew = told.anew.wrapping_add(1),
+        Reply::Unset => told.unset = told.unset.wrapping_add(1),
         _ => {}
     }
-    if is_of_peers(entry) && open.is_some() && m.op != Op::Sweep {
+    told
+}
+
+// With one entry more.
+fn told_after(told: SeenOfAll, open: Option<(Marking, Thread)>, entry: &Entry) -> SeenOfAll {
+    let mut told = told_reply(told, open, &entry.made);
+    if open.is_some() && entry.made.op != Op::Sweep && is_of_peers(entry) {
         told.whole = false;
     }
     told
@@ -292,9 +301,12 @@ fn told_after(told: SeenOfAll, open: Option<(Marking, Thread)>, entry: &Entry) -
 
 // The marking that is begun after an entry.
 fn open_after(open: Option<(Marking, Thread)>, entry: &Entry) -> Option<(Marking, Thread)> {
-    match (entry.made.op, entry.made.reply) {
-        (Op::Begin, Reply::Mark(j)) => Some((j, entry.made.caller)),
-        (Op::Sweep, _) => None,
+    match entry.made.op {
+        Op::Begin => match entry.made.reply {
+            Reply::Mark(j) => Some((j, entry.made.caller)),
+            _ => open,
+        },
+        Op::Sweep => None,
         _ => open,
     }
 }
@@ -350,6 +362,13 @@ fn four_threads_at_once_make_one_history(rt: HostRuntime) -> Result<(), Fail> {
 // The first entry that is no step of the joint machine from the entries before it; None where all are steps.
 fn first_unlawful(alloc: Global, history: &History) -> Result<Option<u64>, AllocError> {
     let mut state = JointState::new(alloc)?;
+    let found = unlawful_for(&mut state, history);
+    drop(state);
+    found
+}
+
+// The same from the first state on.
+fn unlawful_for(state: &mut JointState, history: &History) -> Result<Option<u64>, AllocError> {
     for i in 0..history.len() {
         match state.replay_step(history, i)? {
             Verdict::Lawful => {}

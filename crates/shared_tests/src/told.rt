@@ -53,7 +53,22 @@ fn read_twice<N: OrderName>(
     Ok((reply_of(first), reply_of(second)))
 }
 
-// The same after m1 has set the cell and told m2; None where the desk lacks one of them.
+// The same after m1 has set the cell and told m2.
+fn tell_and_read<N: OrderName>(
+    rt: &impl Wait,
+    shared: &Shared<N, Alone>,
+    one: &mut Caller<N>,
+    two: &mut Caller<N>,
+) -> Result<(Reply, Reply), AllocError>
+    requires threads { (one.old.thread ≡ M 1) × (two.old.thread ≡ M 2) }
+    requires indices { (last_index (own one.old) ≤ 1) × (last_index (own two.old) ≤ 1) }
+{
+    set_cell(rt, shared, one)?;
+    shared.tell(one, two);
+    read_twice(shared, two)
+}
+
+// The same by the callers of a desk; None where it lacks one of them.
 fn read_told<N: OrderName>(
     rt: &impl Wait,
     shared: &Shared<N, Alone>,
@@ -63,11 +78,13 @@ fn read_told<N: OrderName>(
         return Ok(None);
     };
     let Some(mut two) = desk.caller(Thread::M(2)) else {
+        drop(one);
         return Ok(None);
     };
-    set_cell(rt, shared, &mut one)?;
-    shared.tell(&mut one, &mut two);
-    Ok(Some(read_twice(shared, &mut two)?))
+    let read = tell_and_read(rt, shared, &mut one, &mut two);
+    drop(two);
+    drop(one);
+    Ok(Some(read?))
 }
 
 // The same over a new bridge.
@@ -83,6 +100,7 @@ fn run<N: OrderName>(
 {
     let (shared, mut desk) = Shared::<N, Alone>::new(alloc, order, seat, 2, 0, Holding::Every)?;
     let read = read_told(rt, &shared, &mut desk);
+    drop(desk);
     drop(shared);
     read
 }
