@@ -130,6 +130,17 @@ fn alone(history: &History) -> u32 {
     count
 }
 
+// How many entries stand alone in a history, and the line of the last one. The history ends then.
+fn seen_of(history: History) -> (u32, Option<u32>) {
+    let last = match history.entry(history.len().wrapping_sub(1)) {
+        Some(entry) => Some(entry.made.index),
+        None => None,
+    };
+    let alone = alone(&history);
+    drop(history);
+    (alone, last)
+}
+
 #[test]
 fn a_caller_without_memory_keeps_what_it_made_and_goes_on(rt: HostRuntime) -> Result<(), Fail> {
     let (order, seat) = Order::new(rt.alloc(), 1)?;
@@ -137,9 +148,9 @@ fn a_caller_without_memory_keeps_what_it_made_and_goes_on(rt: HostRuntime) -> Re
     assert!(rt; ended.is_some());
     if let Some((refused, history)) = ended {
         assert!(rt; refused <= 1);
-        assert!(rt; alone(&history) <= refused);
-        let last = history.entry(history.len().wrapping_sub(1));
-        assert_eq!(rt; last.map(|e| e.made.index), Some(TRIES));
+        let (alone, last) = seen_of(history);
+        assert!(rt; alone <= refused);
+        assert_eq!(rt; last, Some(TRIES));
     }
     Ok(())
 }

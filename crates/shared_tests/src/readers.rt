@@ -447,6 +447,27 @@ fn ends_in(history: &History) -> u32 {
     count
 }
 
+// How many of the eight threads made all entries and reads of eight stays, and no read that answers what it may not.
+fn right_in(history: &History) -> u32 {
+    let mut right = 0u32;
+    for n in 1..9u8 {
+        let seen = seen_of(history, Thread::M(n));
+        if seen.entries == 1_608 && seen.reads == 776 && seen.wrong == 0 {
+            right = right.wrapping_add(1);
+        }
+    }
+    right
+}
+
+// How many threads made all that, how many cycles ended, and the first entry that is no step of the joint machine. The
+// history ends then.
+fn seen_of_stays(alloc: Global, history: History) -> Result<(u32, u32, Option<u64>), AllocError> {
+    let (right, ends) = (right_in(&history), ends_in(&history));
+    let unlawful = first_unlawful(alloc, &history);
+    drop(history);
+    Ok((right, ends, unlawful?))
+}
+
 // A stay at a cell has 97 reads, in two of four places but for the first, the second and the hundredth, and one entry
 // more than places, since a bridge has two. The joint machine has an object that a pin holds among its roots: so an
 // object that was read isn't freed before it is taken.
@@ -455,12 +476,8 @@ fn eight_threads_read_at_once_while_cycles_go_on(rt: HostRuntime) -> Result<(), 
     for _ in 0..STAYS {
         let (order, seat) = Order::new(rt.alloc(), 8)?;
         let history = run::<Brand, _>(&rt, rt.alloc(), order, seat, Plan::Stays)?;
-        for n in 1..9u8 {
-            let seen = seen_of(&history, Thread::M(n));
-            assert!(rt; seen.entries == 1_608 && seen.reads == 776 && seen.wrong == 0);
-        }
-        assert_eq!(rt; ends_in(&history), 400);
-        assert_eq!(rt; first_unlawful(rt.alloc(), &history)?, None);
+        let seen = seen_of_stays(rt.alloc(), history)?;
+        assert_eq!(rt; seen, (8, 400, None));
     }
     Ok(())
 }
