@@ -8,7 +8,8 @@ ghost use Rattle.log_text.specs.Answers.{refusal_text};
 ghost use Rattle.log_text.specs.Text.{IsLogText};
 ghost use Rattle.bridge_script.specs.declared.faults.Cause.TheVariants.{Bytes};
 ghost use Rattle.bridge_script.specs.Causes.{fault_text};
-ghost use Rattle.bridge_program.specs.Logs.{IsRefusal, LeftOf, LeftPut, LogFaultPut, UnreleasedPut as LeftOfPut, left_text};
+ghost use Rattle.bridge_program.specs.Logs.{IsRefusal, LeftOf, LeftPut, LogFaultPut, UnreleasedPut as LeftOfPut};
+ghost use Rattle.bridge_program.specs.Logs.{left_text};
 
 use crate::statuses::{DONE, NO_MEMORY, READ_FAULT, REFUSED, WRITE_FAULT};
 use bridge_script::{Cause, ScriptFault, write_refusal};

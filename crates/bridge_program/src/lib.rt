@@ -1,5 +1,5 @@
-// The program `bridge_run` as a library: the bridge between two heaps, run over a script that is read, or over one that is
-// made.
+// The program `bridge_run` as a library: the bridge between two heaps, run over a script that is read, or over one that
+// is made.
 //
 // A run of the program is one top call, `bridge_main`:
 //
@@ -20,8 +20,8 @@
 // what is wrong, and what was written then. `specs/Top.antt` and `specs/Ends.antt` have it word by word, and
 // docs/PROVED.md tells it promise by promise. That the program returns, or goes on, is not promised.
 //
-// It is a crate of its own, apart from `main`, so that the tests of whole runs stand in another one (`program_tests`): a
-// crate with tests is proved twice.
+// It is a crate of its own, apart from `main`, so that the tests of whole runs stand in another one (`program_tests`):
+// a crate with tests is proved twice.
 #![tactic(auto)]
 
 mod checked;

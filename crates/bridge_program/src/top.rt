@@ -8,8 +8,8 @@ ghost use Rattle.std.specs.Io.KnownBytes.{Appends, Keeps};
 ghost use Rattle.byte_streams.specs.Faults.{AppendsPart, Rose};
 ghost use Rattle.history_report.specs.Report.{report};
 ghost use Rattle.joint_machine.specs.Histories.{Finished};
-ghost use Rattle.bridge_program.specs.Top.{FaultPut, IsCommand, IsRunIn, LacksMemory, MayAnswer, MayGenerate, ReadsInput};
-ghost use Rattle.bridge_program.specs.Top.{RefusalPut, ResultPut, RunPut, TextPut, UsagePut, usage_text};
+ghost use Rattle.bridge_program.specs.Top.{FaultPut, IsCommand, IsRunIn, LacksMemory, MayAnswer, MayGenerate};
+ghost use Rattle.bridge_program.specs.Top.{ReadsInput, RefusalPut, ResultPut, RunPut, TextPut, UsagePut, usage_text};
 
 use crate::checked::print_checked;
 use crate::compared::print_compared;

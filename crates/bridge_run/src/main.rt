@@ -1,6 +1,6 @@
-// The program `bridge_run`: `main` hands the process's words and streams to `run_program` of `bridge_program`, where all that
-// it does and promises stands. `StdSource` and `StdSink` make a source and a sink of any reader and writer, and each
-// counts its errors.
+// The program `bridge_run`: `main` hands the process's words and streams to `run_program` of `bridge_program`, where
+// all that it does and promises stands. `StdSource` and `StdSink` make a source and a sink of any reader and writer,
+// and each counts its errors.
 #![tactic(auto)]
 
 use bridge_program::run_program;

@@ -1,5 +1,5 @@
-// The program `heap_picture`: `main` hands the process's words and streams to `run_program` of `picture_program`, where all
-// that it does and promises stands.
+// The program `heap_picture`: `main` hands the process's words and streams to `run_program` of `picture_program`, where
+// all that it does and promises stands.
 #![tactic(auto)]
 
 use picture_program::run_program;

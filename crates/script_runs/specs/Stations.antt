@@ -13,7 +13,8 @@ use Rattle.run_laws.specs.Serial.{AreOthers}
 use Rattle.run_laws.specs.Threads.{NoneIsLeft}
 use Rattle.graph_listing.specs.Listing.{Listed}
 use Rattle.script_runs.specs.Listed.{AreAllListed}
-use Rattle.script_runs.specs.Running.{AreUpTo, AreWorkers, DriverIsFirst, DrivesLeft, HasComeThrough, IsNewDriver, RunsOn, last_after}
+use Rattle.script_runs.specs.Running.{AreUpTo, AreWorkers, DriverIsFirst, DrivesLeft, HasComeThrough, IsNewDriver}
+use Rattle.script_runs.specs.Running.{RunsOn, last_after}
 
 -- the driver and the callers of all other threads, none of which has made anything
 pub record AreNewCallers (d : Progress) (others : List Pass) : Type 0 where
@@ -23,7 +24,8 @@ pub record AreNewCallers (d : Progress) (others : List Pass) : Type 0 where
 
 -- one of the others ran a line: none of them has come past it, and the driver has made nothing and knows all that it
 -- knew
-pub record RunsOther (number : ℕ) (t : Thread) (a : Act) (old new : Progress) (others others' : List Pass) : Type 0 where
+pub record RunsOther (number : ℕ) (t : Thread) (a : Act)
+    (old new : Progress) (others others' : List Pass) : Type 0 where
   pub others_are : AreOthers others'
   pub up_to : AreUpTo number others'
   pub own_stay : own (pass_of new) ≡ own (pass_of old)

@@ -1,6 +1,7 @@
 // The run of a script on one thread: its lines one after another.
 
-ghost use Rattle.std.specs.Prelude.{◌≡◌, ℕ, ◌+◌, ◌≤◌, ◌<◌, ◌^◌, false, [], ◌∷◌, ◌++◌, Some, All, IfOk, OnOk, OnErr, length, slice_get};
+ghost use Rattle.std.specs.Prelude.{◌≡◌, ℕ, ◌+◌, ◌≤◌, ◌<◌, ◌^◌, false, [], ◌∷◌, ◌++◌, Some};
+ghost use Rattle.std.specs.Prelude.{All, IfOk, OnOk, OnErr, length, slice_get};
 ghost use Rattle.joint_machine.specs.Histories.{Finished};
 ghost use Rattle.joint_machine.specs.PeerReplay.{is_thread};
 ghost use Rattle.joint_machine.specs.declared.names.Phase.TheVariants.{Idle};

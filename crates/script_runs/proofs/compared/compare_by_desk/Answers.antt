@@ -25,7 +25,8 @@ pub returns-in-Ok-ran-clause-all : goal.returns-in-Ok-ran-clause-all
 returns-in-Ok-ran-clause-all g c =
     let d = c.new_callers.new.desk in
     let p = pass_of c.compare_script-ran.new.driver in
-    if_ok_by c.all_retired.result c.all_retired.ensures.all (λ v is. subst (HasAll d) (sym is) (all_are_given d c.compare_script-ran.new.others.items p c.in-Ok-ran.ensures.listed.ran.come.others_are refl))
+    if_ok_by c.all_retired.result c.all_retired.ensures.all (λ v is. subst (HasAll d) (sym is)
+    (all_are_given d c.compare_script-ran.new.others.items p c.in-Ok-ran.ensures.listed.ran.come.others_are refl))
 
 pub returns-in-Ok-ran-clause-idle : goal.returns-in-Ok-ran-clause-idle
 returns-in-Ok-ran-clause-idle g c =

@@ -8,6 +8,9 @@ run_to_rest-requires g c = drivers_line c.args.caller c.new-driver.result.view (
 
 pub returns-in-Ok : goal.returns-in-Ok
 returns-in-Ok g c = (
-  (ap (λ (p : Pass). p.thread) c.retire.ensures.pass ∙ is_of_c c.args.caller.thread c.requires.thread, subst (λ (p : Pass). last_index (own p) ≤ 1) (sym c.retire.ensures.pass) c.run_to_rest.ensures.line),
+  (
+    ap (λ (p : Pass). p.thread) c.retire.ensures.pass ∙ is_of_c c.args.caller.thread c.requires.thread,
+    subst (λ (p : Pass). last_index (own p) ≤ 1) (sym c.retire.ensures.pass) c.run_to_rest.ensures.line,
+  ),
   c.retire.ensures.idle,
 )
