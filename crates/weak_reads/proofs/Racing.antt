@@ -1,9 +1,9 @@
 -- What the threads of a race begin and end with. A caller that a desk gave has made nothing, so it is ready; and a
 -- thread ends with its own caller, so each thread's caller still waits at the desk or is among those that are given
 -- back.
-use Rattle.std.proofs.Common.{◌≡◌, ℕ, zero, suc, ◌<◌, ◌≤◌, List, [], ◌∷◌, ◌++◌, length, map, Option, Some, Result, Ok, Err, refl, sym, ◌∙◌, ap, subst, arith}
-use Rattle.std.specs.Prelude.{All, IfOk, option_to_list, slice_index_or}
-use Rattle.std.proofs.lemmas.List.Elements.{All-nil, All-cons, All-push}
+use Rattle.std.proofs.Common.{◌≡◌, ℕ, zero, suc, ◌<◌, ◌≤◌, List, [], ◌∷◌, ◌++◌, length, map, Option, Some, Result, Ok, refl, sym, ◌∙◌, ap, subst, arith}
+use Rattle.std.specs.Prelude.{All, option_to_list, slice_index_or}
+use Rattle.std.proofs.lemmas.List.Elements.{All-nil, All-cons}
 use Rattle.joint_machine.specs.declared.names.Thread.{Thread}
 use Rattle.joint_machine.specs.declared.names.Thread.TheVariants.{M, P, C}
 use Rattle.joint_machine.specs.HistoryLines.{caller_line}
@@ -13,15 +13,9 @@ use Rattle.order_table.specs.Facts.{line_entries}
 use Rattle.joint_history.specs.Callers.{KnowsNothing, Pass, last_index, own, own_in}
 use Rattle.joint_history.specs.Desks.{Waiting}
 use Rattle.joint_history.specs.Ending.{HasAll, HasIdleDriver, threads_of}
-use Rattle.joint_history.specs.Operations.{IsOwnThread}
 use Rattle.joint_history.proofs.Giving.{has_all_same, one_given}
-use Rattle.joint_history.proofs.KnownCallers.{own_idle}
 use Rattle.bridge_cycle.proofs.Refusals.{idle_first}
-use Rattle.weak_reads.specs.Racing.{AllEnded, AreCalled, EndsIdle, IsReady}
-
-pub if_ok_by : {T E : Type 0} {P Q : T → Type 0} (r : Result T E) → IfOk r P → ((t : T) → P t → Q t) → IfOk r Q
-if_ok_by (Ok t) p f = f t p
-if_ok_by (Err e) p f = tt
+use Rattle.weak_reads.specs.Racing.{EndsIdle, IsReady}
 
 -- who knows nothing has made nothing
 no_line : (t : Thread) (v : View) → KnowsNothing v → last_index (own_in t v) ≤ 1
@@ -53,18 +47,12 @@ pub given_goes_on : (old new : Waiting) (r : Option Pass) (p q : Pass) (ps : Lis
     → ((qs : List Pass) → HasAll old qs → HasAll new (option_to_list r ++ qs)) → q.thread ≡ p.thread → HasAll old ps → HasAll new (ps ++ q ∷ [])
 given_goes_on old new r p q ps e gives at all = has_all_same new (ps ++ p ∷ []) (ps ++ q ∷ []) (same_last ps p q (sym at)) (one_given old new r p ps e gives all)
 
--- and with it one more is called
-pub called_one : (old new : Waiting) (r : Option Pass) (p q : Pass) (ps : List Pass) → r ≡ Some p
-    → ((qs : List Pass) → HasAll old qs → HasAll new (option_to_list r ++ qs)) → q.thread ≡ p.thread → IsReady q → AreCalled old ps → AreCalled new (ps ++ q ∷ [])
-called_one old new r p q ps e gives at ready called = (given_goes_on old new r p q ps e gives at called.0, All-push IsReady ps q called.1 ready)
-
-pub worker_is_ready : (p : Pass) → IsOwnThread p.thread → last_index (own p) ≤ 1 → IsReady p
-worker_is_ready p is l = (own_is p.thread is, l, own_idle p is)
-  where
-    own_is : (t : Thread) → IsOwnThread t → IsThread t
-    own_is (M n) o = o
-    own_is (P n) o = o
-    own_is C o = absurd o
+-- each caller is that of its job's thread
+abbrev AllEnded : List Pass → List Pass → Type 0
+AllEnded [] [] = Unit {0}
+AllEnded [] (p ∷ ps) = ⊥
+AllEnded (j ∷ js) [] = ⊥
+AllEnded (j ∷ js) (p ∷ ps) = ((p.thread ≡ j.thread) × HasIdleDriver p) × AllEnded js ps
 
 ended : (E : Type 0) (jobs callers : List Pass) → length callers ≡ length jobs
     → ((i : ℕ) (d : Pass) (e : Result Pass E) → i < length jobs → EndsIdle (slice_index_or jobs i d) (slice_index_or (map (λ p. Ok p) callers) i e)) → AllEnded jobs callers

@@ -1,10 +1,9 @@
 -- The callers of a race: before their threads begin, while they go on, and after they have ended. All their entries
 -- stand on line 1. (This project's own.)
-use Rattle.std.specs.Prelude.{◌≡◌, ◌≤◌, All, IfOk, List, [], ◌∷◌, Result}
+use Rattle.std.specs.Prelude.{◌≡◌, ◌≤◌, IfOk, Result}
 use Rattle.joint_machine.specs.Lines.{IsManagedThread, IsThread}
 use Rattle.joint_history.specs.Callers.{Pass, last_index, own}
-use Rattle.joint_history.specs.Desks.{Waiting}
-use Rattle.joint_history.specs.Ending.{HasAll, HasIdleDriver}
+use Rattle.joint_history.specs.Ending.{HasIdleDriver}
 use Rattle.joint_history.specs.Operations.{IsOwnThread}
 
 -- a managed thread's caller
@@ -23,18 +22,6 @@ GoesOn old new = (new.thread ≡ old.thread) × (last_index (own new) ≤ 1)
 abbrev pub IsReady : Pass → Type 0
 IsReady p = IsThread p.thread × (last_index (own p) ≤ 1) × HasIdleDriver p
 
--- these callers were given out: each thread's caller still waits at the desk or is among them, and each of them is
--- ready
-abbrev pub AreCalled : Waiting → List Pass → Type 0
-AreCalled d ps = HasAll d ps × All IsReady ps
-
 -- what a thread ends with, unless it found no memory: its caller, and the driver's is idle
 abbrev pub EndsIdle : {E : Type 0} → Pass → Result Pass E → Type 0
 EndsIdle p result = IfOk result (λ q. GoesOn p q × HasIdleDriver q)
-
--- each job has ended with the caller of its thread
-abbrev pub AllEnded : List Pass → List Pass → Type 0
-AllEnded [] [] = Unit {0}
-AllEnded [] (p ∷ ps) = ⊥
-AllEnded (j ∷ js) [] = ⊥
-AllEnded (j ∷ js) (p ∷ ps) = ((p.thread ≡ j.thread) × HasIdleDriver p) × AllEnded js ps

@@ -1,9 +1,8 @@
 // What stands on the heaps while cells are read: a list of objects that stays, two cells, and what threads allocate and
 // let go.
 
-ghost use Rattle.std.specs.Prelude.{◌≡◌, ◌≤◌};
-ghost use Rattle.joint_machine.specs.Lines.{IsManagedAct, IsPeerAct, IsPeerThread};
-ghost use Rattle.joint_history.specs.Callers.{last_index, own};
+ghost use Rattle.std.specs.Prelude.{◌≡◌};
+ghost use Rattle.joint_machine.specs.Lines.{IsManagedAct};
 ghost use Rattle.weak_reads.specs.Racing.{GoesOn, IsReader, IsWorker};
 
 use joint_history::{Caller, Locks, Shared};
@@ -37,21 +36,6 @@ fn operate<N: OrderName>(
     ensures { GoesOn caller.old caller.new }
 {
     shared.managed(rt, caller, LINE, act)?;
-    Ok(())
-}
-
-// Makes an operation of a peer thread.
-fn operate_peer<N: OrderName>(
-    rt: &impl Wait,
-    shared: &Shared<N, Locks>,
-    caller: &mut Caller<N>,
-    act: &Act,
-) -> Result<(), AllocError>
-    requires caller { IsPeerThread caller.old.thread × (last_index (own caller.old) ≤ 1) }
-    requires act { IsPeerAct act.now }
-    ensures { GoesOn caller.old caller.new }
-{
-    shared.peer(rt, caller, LINE, act)?;
     Ok(())
 }
 
@@ -95,36 +79,6 @@ fn make_list<N: OrderName>(
     Ok(())
 }
 
-// A static holds the list of variable b, and there is a cell of its first object.
-fn hold_list<N: OrderName>(
-    rt: &impl Wait,
-    shared: &Shared<N, Locks>,
-    caller: &mut Caller<N>,
-) -> Result<(), AllocError>
-    requires { IsReader caller.old }
-    ensures { GoesOn caller.old caller.new }
-{
-    let x = StaticNo(0);
-    operate(rt, shared, caller, &Act::Store { x, v: Some(B) })?;
-    operate(rt, shared, caller, &Act::Weak { k: ALIVE, v: B })?;
-    operate(rt, shared, caller, &Act::Drop { v: B })
-}
-
-// Makes a cell of an object that nothing holds.
-fn leave_cell<N: OrderName>(
-    rt: &impl Wait,
-    shared: &Shared<N, Locks>,
-    caller: &mut Caller<N>,
-) -> Result<(), AllocError>
-    requires { IsReader caller.old }
-    ensures { GoesOn caller.old caller.new }
-{
-    let (kind, fields) = (Kind::Leaf, 0);
-    operate(rt, shared, caller, &Act::New { v: A, kind, fields })?;
-    operate(rt, shared, caller, &Act::Weak { k: GONE, v: A })?;
-    operate(rt, shared, caller, &Act::Drop { v: A })
-}
-
 /// Makes a list of so many objects, which a static holds, a cell of its first object, and a cell of one that nothing
 /// holds.
 pub(crate) fn make_heap<N: OrderName>(
@@ -137,8 +91,13 @@ pub(crate) fn make_heap<N: OrderName>(
     ensures { GoesOn caller.old caller.new }
 {
     make_list(rt, shared, caller, objects)?;
-    hold_list(rt, shared, caller)?;
-    leave_cell(rt, shared, caller)
+    let (x, kind, fields) = (StaticNo(0), Kind::Leaf, 0);
+    operate(rt, shared, caller, &Act::Store { x, v: Some(B) })?;
+    operate(rt, shared, caller, &Act::Weak { k: ALIVE, v: B })?;
+    operate(rt, shared, caller, &Act::Drop { v: B })?;
+    operate(rt, shared, caller, &Act::New { v: A, kind, fields })?;
+    operate(rt, shared, caller, &Act::Weak { k: GONE, v: A })?;
+    operate(rt, shared, caller, &Act::Drop { v: A })
 }
 
 // An object that a managed thread allocates: it has a peer, and once it is let go the next cycle frees both.
@@ -160,10 +119,11 @@ pub(crate) fn allocate<N: OrderName>(
     ensures { GoesOn caller.old caller.new }
 {
     match caller.thread() {
-        Thread::M(_) => operate(rt, shared, caller, &BRIDGE),
-        Thread::P(_) => operate_peer(rt, shared, caller, &Act::NewPeer { v: A, fields: 1 }),
+        Thread::M(_) => shared.managed(rt, caller, LINE, &BRIDGE)?,
+        Thread::P(_) => shared.peer(rt, caller, LINE, &Act::NewPeer { v: A, fields: 1 })?,
         Thread::C => unreachable!(),
-    }
+    };
+    Ok(())
 }
 
 /// Lets the object go that the thread made last.
@@ -176,8 +136,9 @@ pub(crate) fn let_go<N: OrderName>(
     ensures { GoesOn caller.old caller.new }
 {
     match caller.thread() {
-        Thread::M(_) => operate(rt, shared, caller, &Act::Drop { v: A }),
-        Thread::P(_) => operate_peer(rt, shared, caller, &Act::Drop { v: A }),
+        Thread::M(_) => shared.managed(rt, caller, LINE, &Act::Drop { v: A })?,
+        Thread::P(_) => shared.peer(rt, caller, LINE, &Act::Drop { v: A })?,
         Thread::C => unreachable!(),
-    }
+    };
+    Ok(())
 }

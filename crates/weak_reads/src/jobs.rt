@@ -1,8 +1,7 @@
 // What each thread does: some read, some allocate, and the driver runs one cycle after the other.
 
-ghost use Rattle.std.specs.Prelude.{◌≡◌, ◌<◌, ◌≤◌, OnOk};
+ghost use Rattle.std.specs.Prelude.{◌≤◌};
 ghost use Rattle.joint_machine.specs.Lines.{IsDriver};
-ghost use Rattle.joint_machine.specs.declared.names.Phase.TheVariants.{Idle};
 ghost use Rattle.bridge_cycle.specs.Progress.{line_of};
 ghost use Rattle.weak_reads.specs.Racing.{EndsIdle, GoesOn, IsReader, IsReady, IsWorker};
 
@@ -11,7 +10,7 @@ use crate::heap::{ALIVE, GONE, LINE, allocate, let_go};
 use crate::plan::{Race, Way};
 use bridge_cycle::Driver;
 use joint_history::{Caller, Locks, Shared};
-use joint_model::{Act, Cell, Phase, PhaseWord, Reply, Thread};
+use joint_model::{Act, Phase, PhaseWord, Reply, Thread};
 use order_table::OrderName;
 use std::alloc::{AllocError, Global};
 use std::sync::Wait;
@@ -25,67 +24,8 @@ const BURST: u32 = 64;
 
 const REST: u64 = 1;
 
-// Makes room for a read without a lock, which takes no memory itself.
-#[inline(always)]
-fn make_room<N: OrderName>(
-    shared: &Shared<N, Locks>,
-    caller: &mut Caller<N>,
-) -> Result<(), AllocError>
-    requires { IsReader caller.old }
-    ensures reader { IsReader caller.new }
-    ensures goes_on { GoesOn caller.old caller.new }
-    ensures room { OnOk result (1 ≤ caller.new.reads.spare) }
-{
-    shared.reserve(caller, 1)?;
-    Ok(())
-}
-
-// Reads a cell at once and without a lock, and answers whether a cycle was open.
-#[inline(always)]
-fn read_at_once<N: OrderName>(
-    shared: &Shared<N, Locks>,
-    caller: &mut Caller<N>,
-    k: Cell,
-) -> Result<bool, AllocError>
-    requires caller { IsReader caller.old }
-    requires cell { k.0 < 64 }
-    ensures { GoesOn caller.old caller.new }
-{
-    make_room(shared, caller)?;
-    let got = shared.read_now(caller, LINE, &Act::Read { k });
-    Ok(matches!(got, Got::Pending { .. }))
-}
-
-// Reads a cell without a lock once no cycle is open.
-#[inline(always)]
-fn read_in_time<N: OrderName>(
-    rt: &impl Wait,
-    shared: &Shared<N, Locks>,
-    caller: &mut Caller<N>,
-) -> Result<bool, AllocError>
-    requires { IsReader caller.old }
-    ensures { GoesOn caller.old caller.new }
-{
-    make_room(shared, caller)?;
-    let got = shared.read_wait(rt, caller, LINE, &Act::Await { k: GONE });
-    Ok(matches!(got, Got::Pending { .. }))
-}
-
-// Reads a cell under the managed lock, and answers whether a cycle was open.
-#[inline(always)]
-fn read_locked<N: OrderName>(
-    rt: &impl Wait,
-    shared: &Shared<N, Locks>,
-    caller: &mut Caller<N>,
-) -> Result<bool, AllocError>
-    requires { IsReader caller.old }
-    ensures { GoesOn caller.old caller.new }
-{
-    let receipt = shared.managed(rt, caller, LINE, &Act::Read { k: GONE })?;
-    Ok(matches!(receipt.reply, Reply::Pending(_)))
-}
-
-// Reads once, and answers whether a cycle was open.
+// Reads once, and answers whether a cycle was open. The reads without a lock take no memory: there is room for their
+// entry before.
 #[inline(always)]
 fn read<N: OrderName>(
     rt: &impl Wait,
@@ -96,16 +36,21 @@ fn read<N: OrderName>(
     requires { IsReader caller.old }
     ensures { GoesOn caller.old caller.new }
 {
-    match race.way {
-        Way::Now => read_at_once(shared, caller, GONE),
-        Way::Pinned => read_at_once(shared, caller, ALIVE),
-        Way::Wait => read_in_time(rt, shared, caller),
-        Way::Locked => read_locked(rt, shared, caller),
+    shared.reserve(caller, 1)?;
+    let got = match race.way {
+        Way::Now => shared.read_now(caller, LINE, &Act::Read { k: GONE }),
+        Way::Pinned => shared.read_now(caller, LINE, &Act::Read { k: ALIVE }),
+        Way::Wait => shared.read_wait(rt, caller, LINE, &Act::Await { k: GONE }),
+        Way::Locked => {
+            let receipt = shared.managed(rt, caller, LINE, &Act::Read { k: GONE })?;
+            return Ok(matches!(receipt.reply, Reply::Pending(_)));
+        }
         Way::Word => {
             race.word.fetch_add(1, Ordering::SeqCst);
-            Ok(false)
+            return Ok(false);
         }
-    }
+    };
+    Ok(matches!(got, Got::Pending { .. }))
 }
 
 // Reads so many times.
@@ -152,23 +97,8 @@ fn read_until<N: OrderName>(
     unreachable!()
 }
 
-// Reads for half of the time without a clock, and then to the end read by read.
-fn read_twice<N: OrderName>(
-    rt: &(impl Wait + Clock),
-    shared: &Shared<N, Locks>,
-    race: &Race,
-    caller: &mut Caller<N>,
-    did: &mut Figures,
-) -> Result<(), AllocError>
-    requires { IsReader caller.old }
-    ensures { GoesOn caller.old caller.new }
-{
-    read_until(rt, shared, race, caller, did, race.half, 100)?;
-    did.end_untimed();
-    read_until(rt, shared, race, caller, did, race.end, 1)
-}
-
-// Reads to the end; what it took is added to what others took.
+// Reads for half of the time without a clock, and then to the end read by read; what it took is added to what others
+// took.
 fn read_all<N: OrderName>(
     rt: &(impl Wait + Clock),
     alloc: Global,
@@ -180,13 +110,10 @@ fn read_all<N: OrderName>(
     ensures { GoesOn caller.old caller.new }
 {
     let mut did = Figures::new(alloc);
-    match read_twice(rt, shared, race, caller, &mut did) {
-        Ok(()) => race.add(rt, did),
-        Err(fault) => {
-            drop(did);
-            Err(fault)
-        }
-    }
+    read_until(rt, shared, race, caller, &mut did, race.half, 100)?;
+    did.end_untimed();
+    read_until(rt, shared, race, caller, &mut did, race.end, 1)?;
+    race.figures.lock(rt).add(did)
 }
 
 // Makes so many objects.
@@ -267,42 +194,7 @@ fn run_cycles<N: OrderName>(
     unreachable!()
 }
 
-// Ends the cycle that is open, if one is.
-fn end_cycle<N: OrderName>(
-    rt: &impl Wait,
-    alloc: Global,
-    shared: &Shared<N, Locks>,
-    driver: &mut Driver<N>,
-) -> Result<(), AllocError>
-    requires { line_of driver.old ≤ 1 }
-    ensures { line_of driver.new ≤ 1 }
-{
-    driver.end(rt, alloc, shared, LINE)
-}
-
-// Runs one cycle after the other. One that finds no memory is ended first, since others may wait for its end.
-fn run_to_rest<N: OrderName>(
-    rt: &(impl Wait + Clock),
-    alloc: Global,
-    shared: &Shared<N, Locks>,
-    race: &Race,
-    driver: &mut Driver<N>,
-) -> Result<(), AllocError>
-    requires { line_of driver.old ≤ 1 }
-    ensures line { line_of driver.new ≤ 1 }
-    ensures rests { OnOk result (driver.new.phase ≡ Idle) }
-{
-    let made = run_cycles(rt, alloc, shared, race, driver);
-    end_cycle(rt, alloc, shared, driver)?;
-    made?;
-    if driver.phase() == Phase::Idle {
-        Ok(())
-    } else {
-        Err(AllocError)
-    }
-}
-
-/// What the driver does.
+/// What the driver does. A cycle that finds no memory is ended first, since others may wait for its end.
 pub(crate) fn drive<N: OrderName>(
     rt: &(impl Wait + Clock),
     alloc: Global,
@@ -315,36 +207,13 @@ pub(crate) fn drive<N: OrderName>(
     ensures { EndsIdle caller result }
 {
     let mut driver = Driver::new(caller);
-    match run_to_rest(rt, alloc, shared, race, &mut driver) {
-        Ok(()) => Ok(driver.retire()),
-        Err(fault) => {
-            drop(driver);
-            Err(fault)
-        }
+    let made = run_cycles(rt, alloc, shared, race, &mut driver);
+    driver.end(rt, alloc, shared, LINE)?;
+    made?;
+    if driver.phase() != Phase::Idle {
+        return Err(AllocError);
     }
-}
-
-// What a thread does that isn't the driver, to its end, of which the driver hears.
-fn run_worker<N: OrderName>(
-    rt: &(impl Wait + Clock),
-    alloc: Global,
-    shared: &Shared<N, Locks>,
-    race: &Race,
-    caller: Caller<N>,
-) -> Result<Caller<N>, AllocError>
-    requires { IsWorker caller }
-    ensures { EndsIdle caller result }
-{
-    let mut caller = caller;
-    let made = work(rt, alloc, shared, race, &mut caller);
-    race.one_has_ended();
-    match made {
-        Ok(()) => Ok(caller),
-        Err(fault) => {
-            drop(caller);
-            Err(fault)
-        }
-    }
+    Ok(driver.retire())
 }
 
 /// What the thread of a caller does, to its end.
@@ -360,6 +229,12 @@ pub(crate) fn run_thread<N: OrderName>(
 {
     match caller.thread() {
         Thread::C => drive(rt, alloc, shared, race, caller),
-        Thread::M(_) | Thread::P(_) => run_worker(rt, alloc, shared, race, caller),
+        Thread::M(_) | Thread::P(_) => {
+            let mut caller = caller;
+            let made = work(rt, alloc, shared, race, &mut caller);
+            race.one_has_ended();
+            made?;
+            Ok(caller)
+        }
     }
 }

@@ -28,16 +28,12 @@ mod plan;
 mod race;
 mod words;
 
-use figures::{Figures, a_second};
+use figures::a_second;
 use plan::{Setup, Way};
 use race::{Over, run_race};
-use std::alloc::Global;
 use std::process::ExitCode;
-use std::sync::Wait;
-use std::thread::Threads;
-use std::time::Clock;
 use std::{env, io};
-use words::{Command, command_of};
+use words::command_of;
 
 // Each way of reading, and what it is called.
 const WAYS: [(&'static str, Way); 5] = [
@@ -50,78 +46,42 @@ const WAYS: [(&'static str, Way); 5] = [
 
 fn main(rt: HostRuntime) -> io::Result<ExitCode> {
     let words: Vec<String> = env::args(&rt)?.skip(1).collect(rt.alloc())?;
-    let command = command_of(&words);
-    drop(words);
-    let Some(command) = command else {
+    let Some(command) = command_of(&words) else {
         eprintln!(rt; "usage: weak_reads count|time MILLIS READERS OBJECTS")?;
         return Ok(ExitCode::from(1));
     };
-    race_each_way(&rt, rt.alloc(), &command)?;
-    Ok(ExitCode::SUCCESS)
-}
-
-// Runs a race for each way of reading, and prints its line.
-fn race_each_way<R: Threads + Wait + Clock + Print + Sync>(
-    rt: &R,
-    alloc: Global,
-    command: &Command,
-) -> io::Result<()> {
     if command.timed {
         println!(rt;
             "way              reads a second   longest, ns     99.9 %, ns  cycles a second  pending of all"
         )?;
     }
-    for each in &WAYS {
-        let (name, way) = *each;
+    for (name, way) in WAYS {
         let setup = Setup {
             way,
             readers: command.readers,
             objects: command.objects,
             nanos: u64::from(command.millis) * 1_000_000,
         };
-        race_and_print(rt, alloc, name, &setup, command.timed)?;
+        let over = run_race(&rt, rt.alloc(), &setup)?;
+        print(&rt, name, &setup, command.timed, over)?;
     }
-    Ok(())
+    Ok(ExitCode::SUCCESS)
 }
 
-// Runs a race, and prints its figures, or what is left when it has ended.
-fn race_and_print<R: Threads + Wait + Clock + Print + Sync>(
-    rt: &R,
-    alloc: Global,
-    name: &str,
-    setup: &Setup,
-    timed: bool,
-) -> io::Result<()> {
+// Prints the line of a race: its figures, or what is left when it has ended.
+fn print(rt: &impl Print, name: &str, setup: &Setup, timed: bool, over: Over) -> io::Result<()> {
     let Over {
         figures,
         nanos,
         end,
-    } = run_race(rt, alloc, setup)?;
-    if timed {
-        print_figures(
-            rt,
-            name,
-            setup,
-            figures,
-            a_second(u64::from(end.cycles), nanos.max(1)),
-        )
-    } else {
-        drop(figures);
-        println!(rt;
+    } = over;
+    if !timed {
+        return println!(rt;
             "{name}: left are {} objects, {} peers and {} handles",
             end.managed.left, end.peers.left, end.handles.left
-        )
+        );
     }
-}
-
-// Prints the figures of a race, with so many cycles a second.
-fn print_figures(
-    rt: &impl Print,
-    name: &str,
-    setup: &Setup,
-    figures: Figures,
-    cycles: u64,
-) -> io::Result<()> {
+    let cycles = a_second(u64::from(end.cycles), nanos.max(1));
     let rate = a_second(figures.untimed(), (setup.nanos / 2).max(1));
     let (reads, pending) = (figures.reads(), figures.pending());
     let times = figures.times();

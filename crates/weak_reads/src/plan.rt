@@ -1,9 +1,9 @@
 // What is run, and what its threads share.
 
 use crate::figures::Figures;
-use std::alloc::{AllocError, Global};
+use std::alloc::Global;
+use std::sync::Mutex;
 use std::sync::atomic::{AtomicU64, Ordering};
-use std::sync::{Mutex, Wait};
 
 /// How the threads read.
 #[derive(Clone, Copy, PartialEq, Eq)]
@@ -39,7 +39,7 @@ pub(crate) struct Race {
     pub(crate) half: u64,
     pub(crate) end: u64,
     pub(crate) word: AtomicU64,
-    figures: Mutex<Figures>,
+    pub(crate) figures: Mutex<Figures>,
     // How many threads are under way beside the driver.
     under_way: AtomicU64,
 }
@@ -66,11 +66,6 @@ impl Race {
     /// Whether all of them have.
     pub(crate) fn others_have_ended(&self) -> bool {
         self.under_way.load(Ordering::SeqCst) == 0
-    }
-
-    /// Adds what a reader did. Answers `AllocError` where there is no memory; nothing is added then.
-    pub(crate) fn add(&self, rt: &impl Wait, did: Figures) -> Result<(), AllocError> {
-        self.figures.lock(rt).add(did)
     }
 
     /// What its readers did.

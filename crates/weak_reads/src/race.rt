@@ -7,15 +7,15 @@
 // 3. a job for each caller, on a thread of its own (`jobs.rt`);
 // 4. all callers given back: the run is finished, and its history counted.
 
-ghost use Rattle.std.specs.Prelude.{◌≡◌, ◌<◌, ℕ, map, [], All, IfOk, Ok, OnOk, slice_index_or, vec_len};
+ghost use Rattle.std.specs.Prelude.{◌≡◌, ◌<◌, ℕ, map, [], All, IfOk, Ok, slice_index_or, vec_len};
 ghost use Rattle.joint_machine.specs.LinkedHistories.{IsLinked};
 ghost use Rattle.order_table.specs.Allowed.{Settled};
 ghost use Rattle.order_table.specs.Views.{OwnsAll};
 ghost use Rattle.joint_history.specs.Callers.{KnowsNothing};
 ghost use Rattle.joint_history.specs.Ending.{HasAll, HasEndNumbers, HasIdleDriver};
-ghost use Rattle.weak_reads.specs.Racing.{AllEnded, EndsIdle, IsReady};
+ghost use Rattle.weak_reads.specs.Racing.{EndsIdle, IsReady};
 
-use crate::callers::callers_of;
+use crate::callers::{first_caller, with_driver, with_others};
 use crate::figures::{Figures, now};
 use crate::jobs::run_thread;
 use crate::plan::{Race, Setup};
@@ -90,45 +90,26 @@ fn play<N: OrderName + Send + Sync, R: Threads + Wait + Clock + Sync>(
     ensures all { IfOk result (λ r. HasAll desk.new r.0.items) }
     ensures idle { IfOk result (λ r. All HasIdleDriver r.0.items) }
 {
+    let one = first_caller(rt, alloc, shared, desk, setup.objects)?;
     // the readers but m1, a peer thread, and where one is left a managed thread that allocates
     let others = if setup.readers < 8 {
         setup.readers + 1
     } else {
         8
     };
+    let workers = with_others(desk, one, others)?;
     // the driver's job is the last: where no thread can be made all others have ended before it
-    let jobs = callers_of(rt, alloc, shared, desk, setup, others)?;
+    let jobs = with_driver(rt, alloc, shared, desk, workers, setup)?;
     let start = now(rt);
     let race = Race::new(alloc, setup, start, others + 1);
-    match run_all(rt, alloc, shared, &race, jobs) {
-        Ok(callers) => {
-            let nanos = now(rt).saturating_sub(start);
-            Ok((callers, race.into_figures(), nanos))
-        }
-        Err(fault) => {
-            drop(race);
-            Err(fault)
-        }
-    }
+    let ended = run_all(rt, alloc, shared, &race, jobs)?;
+    let nanos = now(rt).saturating_sub(start);
+    let callers = all_ended(alloc, ended)?;
+    Ok((callers, race.into_figures(), nanos))
 }
 
-// All jobs at once, to their end.
+// All jobs at once, each on a thread of its own.
 fn run_all<N: OrderName + Send + Sync, R: Threads + Wait + Clock + Sync>(
-    rt: &R,
-    alloc: Global,
-    shared: &Shared<N, Locks>,
-    race: &Race,
-    jobs: Vec<Caller<N>>,
-) -> Result<Vec<Caller<N>>, AllocError>
-    requires { All IsReady jobs.items }
-    ensures { IfOk result (λ v. AllEnded jobs.items v.items) }
-{
-    let ended = run_jobs(rt, alloc, shared, race, jobs)?;
-    all_ended(alloc, ended)
-}
-
-// All jobs at once, each on a thread of its own; and with what each ended.
-fn run_jobs<N: OrderName + Send + Sync, R: Threads + Wait + Clock + Sync>(
     rt: &R,
     alloc: Global,
     shared: &Shared<N, Locks>,
@@ -158,25 +139,8 @@ fn all_ended<N: OrderName>(
     ensures { IfOk result (λ v. map (λ p. Ok p) v.items ≡ ended.items) }
 {
     let mut callers = Vec::new(alloc);
-    match put_ended(&mut callers, ended) {
-        Ok(()) => Ok(callers),
-        Err(fault) => {
-            drop(callers);
-            Err(fault)
-        }
-    }
-}
-
-// The same callers, put behind none.
-fn put_ended<N: OrderName>(
-    callers: &mut Vec<Caller<N>>,
-    ended: Vec<Result<Caller<N>, AllocError>>,
-) -> Result<(), AllocError>
-    requires { callers.old.items ≡ [] }
-    ensures { OnOk result (map (λ p. Ok p) callers.new.items ≡ ended.items) }
-{
     for end in ended {
         callers.push(end?)?;
     }
-    Ok(())
+    Ok(callers)
 }

@@ -5,8 +5,8 @@ use Rattle.joint_history.proofs.Desking.{thread_is}
 use Rattle.joint_history.proofs.Giving.{none_given, one_given}
 use Rattle.weak_reads.specs.Racing.{IsReady}
 use Rattle.weak_reads.proofs.Racing.{given_is_ready}
-use Rattle.weak_reads.proofs.callers.call_others.Goals as goal
-use Rattle.weak_reads.proofs.callers.call_others.Goals.{in-Some+in_ok-push, in_default, then-other-eq0, else-other-eq0}
+use Rattle.weak_reads.proofs.callers.with_others.Goals as goal
+use Rattle.weak_reads.proofs.callers.with_others.Goals.{in-Some+in_ok-push, in_default, then-other-eq0, else-other-eq0}
 
 pub loop-other-preserved : goal.loop-other-preserved
 loop-other-preserved g c =
