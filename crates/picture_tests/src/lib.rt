@@ -1,5 +1,6 @@
-// Tests of `picture_sheets` and `picture_program` by their public calls: long chains, on which what lies around a node and
-// what two pictures have in common is found in time; and whole runs of the program, ends that fail, and want of memory.
+// Tests of `picture_sheets` and `picture_program` by their public calls: long chains, on which what lies around a node
+// and what two pictures have in common is found in time; and whole runs of the program, ends that fail, and want of
+// memory.
 //
 // They stand in a crate of their own since a crate with tests is proved twice, with them and without. Nothing but tests
 // stands here, and no other crate builds on it.

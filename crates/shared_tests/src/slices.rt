@@ -232,11 +232,11 @@ fn seen_slice(seen: SeenOfSlices, reply: Reply) -> SeenOfSlices {
     }
 }
 
-// How many peers a sweep freed; one, where the reply is none of a sweep.
-fn freed_by(reply: Reply) -> u32 {
+// Whether a sweep answers that it freed no peer.
+fn frees_nothing(reply: Reply) -> bool {
     match reply {
-        Reply::Swept(_, span) => span.count,
-        _ => 1,
+        Reply::Swept(_, span) => span.count == 0,
+        _ => false,
     }
 }
 
@@ -244,7 +244,7 @@ fn freed_by(reply: Reply) -> u32 {
 fn seen_after(seen: SeenOfSlices, entry: &Entry) -> SeenOfSlices {
     match entry.made.op {
         Op::Line(Act::Slice { .. }) => seen_slice(seen, entry.made.reply),
-        Op::Sweep if freed_by(entry.made.reply) == 0 => SeenOfSlices {
+        Op::Sweep if frees_nothing(entry.made.reply) => SeenOfSlices {
             swept: seen.swept.wrapping_add(1),
             ..seen
         },
