@@ -1,6 +1,6 @@
 -- The run line after line from its first line to its last, and the desk from which its callers come.
 use Rattle.std.proofs.Common.{◌≡◌, ◌⊎◌, ⊎_elim, ℕ, ◌+◌, ◌<◌, ◌≤◌, ◌^◌, true, List, [], ◌∷◌, ◌++◌, length, Some, None, refl, sym, ◌∙◌, ap, subst, arith, inl, inr, zero, suc, Bool, false}
-use Rattle.std.specs.Prelude.{All, IfOk, Result, Ok, Err, if◌then◌else◌, slice_get, slice_set, take}
+use Rattle.std.specs.Prelude.{All, if◌then◌else◌, slice_get, slice_set, take}
 use Rattle.std.proofs.lemmas.List.{take_all}
 use Rattle.std.proofs.lemmas.List.Elements.{All-contains, Contains-append_cases, Contains-append_right}
 use Rattle.std.proofs.lemmas.Option.{slice_get_within}
@@ -30,10 +30,6 @@ use Rattle.script_runs.specs.Running.{AreUpTo, DrivesLeft, HasCome, HasComeThrou
 use Rattle.script_runs.specs.Stations.{AreNewCallers, ComesTo}
 use Rattle.script_runs.proofs.Desked.{has_every}
 use Rattle.script_runs.proofs.Owned.{own_nothing}
-
-pub if_ok_by : {T E : Type 0} {P Q : T → Type 0} (r : Result T E) → IfOk r P → ((t : T) → P t → Q t) → IfOk r Q
-if_ok_by (Ok t) p f = f t p
-if_ok_by (Err e) p f = tt
 
 -- before the first line
 pub come_first : (d : Progress) (others : List Pass) → KnowsNothing d.view → Idle ≡ d.phase → 0 ≡ d.candidates

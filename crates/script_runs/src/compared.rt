@@ -316,10 +316,9 @@ fn compare_by_desk<N: OrderName, O: Sink>(
         (λ v cycles. (h : Finished) → IsLinked h → All (HasOwn h.entries) v.items
         → IsKnownHistory v.items h → IsListedIn h cycles) }
 {
-    let Ok((driver, others)) = new_callers(alloc, desk) else {
+    let Ok((mut driver, mut others)) = new_callers(alloc, desk) else {
         return Err(AllocError);
     };
-    let (mut driver, mut others) = (driver, others);
     let ran = compare_script(
         rt,
         alloc,

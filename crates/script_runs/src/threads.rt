@@ -21,7 +21,7 @@ use std::sync::Wait;
 use std::thread;
 use std::thread::Threads;
 
-// The callers with which the threads ended are put behind none.
+// Puts the callers with which the threads ended into an empty list.
 fn put_ended<N: OrderName>(
     callers: &mut Vec<Caller<N>>,
     ended: Vec<Result<Caller<N>, AllocError>>,
