@@ -7,7 +7,7 @@ use Rattle.joint_laws.specs.ReadingLaws.{IsLawfulReading}
 use Rattle.joint_laws.proofs.ReadsAside.{linked_is_complete}
 use Rattle.joint_laws.proofs.ReadingsGoneAfter.{lock_free_reads_are_gone, weak_reads_are_gone_reading, none_is_mirrored_reading}
 use Rattle.joint_history.specs.Ending.{IsFinished}
-use Rattle.script_laws.specs.Ending.{AllCyclesEnd}
+use Rattle.script_laws.specs.Closing.{AllCyclesClose}
 use Rattle.script_laws.proofs.Asides.{exact_asides_are_replies}
 use Rattle.script_laws.proofs.Ending.{held-end}
 use Rattle.script_laws.proofs.Finishing.{one-history}
@@ -17,16 +17,15 @@ use Rattle.script_laws.proofs.ThreadEnding.{thread_history_ends}
 use Rattle.run_laws.specs.Final.{IsBridgeRun}
 use Rattle.run_laws.specs.FinalLaws.{HeldByThreadsIsRun, HeldInOrderIsRun}
 
--- by what ends each cycle a finished history is a run's
-abbrev pub kept : (h : Finished) (w : IsFinished h) → length h.entries < 2 ^ 64 → AllCyclesEnd h.entries → IsBridgeRun h w.noted
+-- a finished history that closes each cycle is a run's
+abbrev pub kept : (h : Finished) (w : IsFinished h) → length h.entries < 2 ^ 64 → AllCyclesClose h.entries → IsBridgeRun h w.noted
 kept h w few ends =
     let run = linked_is_complete h w.noted w.finished.linked in
     let lawful : IsLawfulReading w.noted = (w.noted, (managed_end w.noted).cells, w.finished.linked.lawful) in
     record {
       linked = w.finished.linked;
       queued = w.finished.queued;
-      ends = ends;
-      own_ends = linked-end h w.noted w.finished.linked ends;
+      ends = linked-end h w.noted w.finished.linked ends;
       moments = run.0;
       run = run.1;
       sound = run.2;

@@ -31,7 +31,7 @@ use Rattle.joint_history.specs.Knowing.{line_known}
 use Rattle.script_laws.specs.Growing.{numbers_of}
 use Rattle.script_laws.specs.Holding.{Standing, opening_standing, phase_after, standing_after, AreLine, AreLeft, HoldsLines, numbered_from, lines_of, entries_by}
 use Rattle.script_laws.specs.SoFar.{HoldsSoFar}
-use Rattle.script_laws.specs.Ending.{ResolvesLater, ResolveComes, IsEnded, AllCyclesEnd}
+use Rattle.script_laws.specs.Closing.{ResolvesLater, ResolveComes, CycleCloses, AllCyclesClose}
 use Rattle.script_laws.proofs.AllThreads.{is_one, no-lines}
 use Rattle.script_laws.proofs.Ending.{EndsFrom, lines-end}
 use Rattle.script_laws.proofs.Growing.{held_lines_end, idle_leaves_nothing, numbers_go_on, rising_entries_are_one, behind}
@@ -86,11 +86,11 @@ comes-more (e ∷ es) fs c = by e.made.op (λ r. comes-more es fs r) c
     by (op.Snap k) f c = absurd c
     by o f c = f c
 
-ends-both : (es fs : List Entry) → AllCyclesEnd es → AllCyclesEnd fs → AllCyclesEnd (es ++ fs)
+ends-both : (es fs : List Entry) → AllCyclesClose es → AllCyclesClose fs → AllCyclesClose (es ++ fs)
 ends-both [] fs a b = b
 ends-both (e ∷ es) fs a b = (by e.made.op a.0, ends-both es fs a.1 b)
   where
-    by : (o : Op) → IsEnded o es → IsEnded o (es ++ fs)
+    by : (o : Op) → CycleCloses o es → CycleCloses o (es ++ fs)
     by (op.Abandon k) c = absurd c
     by (op.Snap k) c = comes-more es fs c
     by o c = tt
@@ -100,7 +100,7 @@ cycle-idle : (s : Standing) (number : ℕ) (es : List Entry) → s.phase ≡ at.
 cycle-idle s number es i = subst (λ (p : Phase). phase_after p (next_phase p word.Cycle) ≡ at.Idle) (sym i) refl
 
 -- a cycle ends itself
-cycle-ends : (number : ℕ) (es : List Entry) → AreWholeCycle number es → AllCyclesEnd es
+cycle-ends : (number : ℕ) (es : List Entry) → AreWholeCycle number es → AllCyclesClose es
 cycle-ends number es w =
     subst (λ p. EndsFrom p es) w.idle
     (lines-end ((number, cycle_line) ∷ []) w.standing es (
@@ -228,9 +228,9 @@ module _ (script : List (Thread × Act)) (h : Finished) (d : Waiting) (others : 
   lines : HoldsThenCycle script h.entries
   lines = record { before = parts.0; cycle = w.cycle; all = parts.1; lines = holds-each; cycle_is = w.cycle_is }
 
-  ends : AllCyclesEnd h.entries
+  ends : AllCyclesClose h.entries
   ends = drivers_ends h fin.noted fin.finished.linked
-      (subst AllCyclesEnd (sym of-driver)
+      (subst AllCyclesClose (sym of-driver)
       (ends-both (own before) w.cycle (lines-end (lines_of before.thread (numbered_from 1 script)) opening_standing (own before) drove) (cycle-ends (length script + 1) w.cycle w.cycle_is)))
 
   cycle-ends-run : IsRunThenCycle script h

@@ -19,7 +19,7 @@ use Rattle.joint_laws.specs.Afterwards.{reading_at}
 use Rattle.joint_laws.specs.EventsAt.{HasEventAt}
 use Rattle.joint_laws.specs.Readings.{AreExact}
 use Rattle.history_report.specs.Report.{report}
-use Rattle.script_laws.specs.Ending.{AllCyclesEnd, OwnCyclesEnd}
+use Rattle.script_laws.specs.Ending.{AllCyclesEnd}
 use Rattle.script_laws.specs.Holding.{HoldsInOrder, HoldsPerThread}
 use Rattle.script_laws.specs.OneHistory.{IsOneHistory}
 use Rattle.run_laws.specs.Waits.{WaitsEnd}
@@ -48,7 +48,6 @@ pub record IsBridgeRun (h : Finished) (noted : List Noted) : Type 0 where
   pub queued : HasQueued h noted
   -- no cycle is abandoned, and each snapshot's own resolve comes before the next snapshot
   pub ends : AllCyclesEnd h.entries
-  pub own_ends : OwnCyclesEnd h.entries
   -- the machine whose one graph joins both heaps runs through it, and its run is sound and complete
   pub moments : List Moment
   pub run : IsRun (joint_projection noted) moments

@@ -20,7 +20,7 @@ use Rattle.joint_machine.specs.declared.events.Entry.{Entry}
 use Rattle.joint_machine.specs.Phases.{next_phase, phases_left, phases_of, IsEventOf, IsClear, AreEach, AreTimes, AreMarkAfterSweep, ArePhase, candidates_after, ArePhases}
 use Rattle.script_laws.specs.Holding.{next_event, AreEventsAfter, Standing, AreWord, AreEvents, phase_after, standing_after, HoldsLines, HoldsInOrder, HoldsPerThread, opening_standing, numbered_from}
 use Rattle.script_laws.specs.Holding.{lines_of, entries_by}
-use Rattle.script_laws.specs.Ending.{ResolvesLater, ResolveComes, IsEnded, AllCyclesEnd}
+use Rattle.script_laws.specs.Closing.{ResolvesLater, ResolveComes, CycleCloses, AllCyclesClose}
 
 -- neither opens nor ends a cycle
 abbrev IsCalm : Op → Type 0
@@ -35,14 +35,14 @@ AreCalm (e ∷ es) = IsCalm e.made.op × AreCalm es
 
 -- the entries end each cycle, and the one that is open in the phase
 pub record OpenEnds (es : List Entry) : Type 0 where
-  pub all : AllCyclesEnd es
+  pub all : AllCyclesClose es
   pub comes : ResolveComes es
 
 abbrev pub EndsFrom : Phase → List Entry → Type 0
-EndsFrom at.Idle es = AllCyclesEnd es
+EndsFrom at.Idle es = AllCyclesClose es
 EndsFrom p es = OpenEnds es
 
-calm-ended : (o : Op) (es : List Entry) → IsCalm o → IsEnded o es
+calm-ended : (o : Op) (es : List Entry) → IsCalm o → CycleCloses o es
 calm-ended (op.Snap k) es c = absurd c
 calm-ended (op.Abandon k) es c = absurd c
 calm-ended o es c = tt
@@ -52,7 +52,7 @@ calm-resolves (op.Snap k) L c l = absurd c
 calm-resolves (op.Resolve k) L c l = tt
 calm-resolves o L c l = l
 
-calm-all : (own rest : List Entry) → AreCalm own → AllCyclesEnd rest → AllCyclesEnd (own ++ rest)
+calm-all : (own rest : List Entry) → AreCalm own → AllCyclesClose rest → AllCyclesClose (own ++ rest)
 calm-all [] rest c a = a
 calm-all (e ∷ own) rest c a = (calm-ended e.made.op (own ++ rest) c.0, calm-all own rest c.1 a)
 
@@ -118,20 +118,20 @@ phase-calm n word.Snap es m a = absurd m
 phase-calm n word.Resolve es m a = absurd m
 
 -- the first and the last phase
-snap-ends : (es rest : List Entry) → AreTimes word.Snap 1 es → OpenEnds rest → AllCyclesEnd (es ++ rest)
+snap-ends : (es rest : List Entry) → AreTimes word.Snap 1 es → OpenEnds rest → AllCyclesClose (es ++ rest)
 snap-ends [] rest a o = absurd (let z = a.count in cc)
 snap-ends (e ∷ []) rest a o = (snapped e.made.op a.each.0, o.all)
   where
-    snapped : (p : Op) → IsEventOf word.Snap p → IsEnded p rest
+    snapped : (p : Op) → IsEventOf word.Snap p → CycleCloses p rest
     snapped (op.Snap k) q = o.comes
     snapped p q = absurd q
 snap-ends (e ∷ f ∷ es) rest a o = absurd (let z = a.count in cc)
 
-resolve-ends : (es rest : List Entry) → AreTimes word.Resolve 1 es → AllCyclesEnd rest → OpenEnds (es ++ rest)
+resolve-ends : (es rest : List Entry) → AreTimes word.Resolve 1 es → AllCyclesClose rest → OpenEnds (es ++ rest)
 resolve-ends [] rest a o = absurd (let z = a.count in cc)
 resolve-ends (e ∷ []) rest a o = record { all = (ended e.made.op a.each.0, o); comes = comes e.made.op a.each.0 }
   where
-    ended : (p : Op) → IsEventOf word.Resolve p → IsEnded p rest
+    ended : (p : Op) → IsEventOf word.Resolve p → CycleCloses p rest
     ended (op.Resolve k) q = tt
     ended p q = absurd q
 
@@ -271,8 +271,8 @@ pub lines-end : (lines : List (ℕ × (Thread × Act))) (s : Standing) (es : Lis
 lines-end [] s es h = subst (EndsFrom s.phase) (append-nil es) (phases-end s.candidates s.phase (phases_left s.phase) at.Idle es [] (left-lead s.phase) h.events tt)
 lines-end (line ∷ lines) s es h = subst (EndsFrom s.phase) (sym h.2) (line-ends s line.0 line.1.1 h.0 h.1 h.3.events (lines-end lines (standing_after s line.0 line.1.1 h.0) h.1 h.4))
 
-pub held-end : (script : List (Thread × Act)) (es : List Entry) → HoldsInOrder script es → AllCyclesEnd es
+pub held-end : (script : List (Thread × Act)) (es : List Entry) → HoldsInOrder script es → AllCyclesClose es
 held-end script es h = lines-end (numbered_from 1 script) opening_standing es h
 
-pub held-thread-end : (script : List (Thread × Act)) (es : List Entry) → HoldsPerThread script es → AllCyclesEnd (entries_by C es)
+pub held-thread-end : (script : List (Thread × Act)) (es : List Entry) → HoldsPerThread script es → AllCyclesClose (entries_by C es)
 held-thread-end script es h = lines-end (lines_of C (numbered_from 1 script)) opening_standing (entries_by C es) (h C)

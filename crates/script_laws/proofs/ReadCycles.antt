@@ -15,7 +15,8 @@ use Rattle.joint_machine.proofs.Deciding.{and-true}
 use Rattle.joint_laws.specs.ReadingLaws.{without_aside}
 use Rattle.joint_laws.proofs.ReadsAside.{reading_is_lawful, without-cons}
 use Rattle.known_laws.specs.PastEntries.{entries}
-use Rattle.script_laws.specs.Ending.{ResolvesLater, ResolveComes, AllCyclesEnd, ResolvesAs, ResolveOf, IsOwnEnded, OwnCyclesEnd}
+use Rattle.script_laws.specs.Closing.{ResolvesLater, ResolveComes, AllCyclesClose}
+use Rattle.script_laws.specs.Ending.{ResolvesAs, ResolveOf, IsEnded, AllCyclesEnd}
 use Rattle.script_laws.proofs.OwnCycles.{own-ends}
 use Rattle.script_laws.proofs.ThreadEnding.{resolves-more, ended-more}
 
@@ -33,8 +34,9 @@ read-as k (op.Resolve j) L e l = absurd (let g : false ≡ true = e in cc)
 read-as k (op.Snap j) L e l = absurd (let g : false ≡ true = e in cc)
 read-as k o L e l = l
 
-read-own : (o : Op) (es : List Entry) → is_read o ≡ true → IsOwnEnded o es
+read-own : (o : Op) (es : List Entry) → is_read o ≡ true → IsEnded o es
 read-own (op.Snap k) es e = absurd (let g : false ≡ true = e in cc)
+read-own (op.Abandon k) es e = absurd (let g : false ≡ true = e in cc)
 read-own o es e = tt
 
 as-more : (k : Cycle) (o : Op) (A B : Type 0) → (A → B) → ResolvesAs k o A → ResolvesAs k o B
@@ -42,8 +44,9 @@ as-more k (op.Resolve j) A B f r = r
 as-more k (op.Snap j) A B f r = absurd r
 as-more k o A B f r = f r
 
-own-more : (o : Op) (es fs : List Entry) → ((k : Cycle) → ResolveOf k es → ResolveOf k fs) → IsOwnEnded o es → IsOwnEnded o fs
+own-more : (o : Op) (es fs : List Entry) → ((k : Cycle) → ResolveOf k es → ResolveOf k fs) → IsEnded o es → IsEnded o fs
 own-more (op.Snap k) es fs f r = f k r
+own-more (op.Abandon k) es fs f r = absurd r
 own-more o es fs f r = tt
 
 -- without the reads that are set aside, and back
@@ -55,13 +58,13 @@ comes-without (n ∷ ns) r = by (is_aside n) refl (comes-without ns)
     by true e f = subst (λ z. ResolveComes (entries z)) (sym (without-cons n ns true e)) (f (read-later n.entry.made.op (ResolveComes (entries ns)) (aside-read n e) r))
     by false e f = subst (λ z. ResolveComes (entries z)) (sym (without-cons n ns false e)) (resolves-more n.entry.made.op (ResolveComes (entries ns)) (ResolveComes (entries (without_aside ns))) f r)
 
-ended-without : (ns : List Noted) → AllCyclesEnd (entries ns) → AllCyclesEnd (entries (without_aside ns))
+ended-without : (ns : List Noted) → AllCyclesClose (entries ns) → AllCyclesClose (entries (without_aside ns))
 ended-without [] d = d
 ended-without (n ∷ ns) d = by (is_aside n) refl (ended-without ns d.1)
   where
-    by : (b : Bool) → is_aside n ≡ b → AllCyclesEnd (entries (without_aside ns)) → AllCyclesEnd (entries (without_aside (n ∷ ns)))
-    by true e f = subst (λ z. AllCyclesEnd (entries z)) (sym (without-cons n ns true e)) f
-    by false e f = subst (λ z. AllCyclesEnd (entries z)) (sym (without-cons n ns false e)) (ended-more n.entry.made.op (entries ns) (entries (without_aside ns)) (comes-without ns) d.0, f)
+    by : (b : Bool) → is_aside n ≡ b → AllCyclesClose (entries (without_aside ns)) → AllCyclesClose (entries (without_aside (n ∷ ns)))
+    by true e f = subst (λ z. AllCyclesClose (entries z)) (sym (without-cons n ns true e)) f
+    by false e f = subst (λ z. AllCyclesClose (entries z)) (sym (without-cons n ns false e)) (ended-more n.entry.made.op (entries ns) (entries (without_aside ns)) (comes-without ns) d.0, f)
 
 resolve-with : (k : Cycle) (ns : List Noted) → ResolveOf k (entries (without_aside ns)) → ResolveOf k (entries ns)
 resolve-with k [] r = r
@@ -71,16 +74,16 @@ resolve-with k (n ∷ ns) r = by (is_aside n) refl (resolve-with k ns)
     by true e f = read-as k n.entry.made.op (ResolveOf k (entries ns)) (aside-read n e) (f (subst (λ z. ResolveOf k (entries z)) (without-cons n ns true e) r))
     by false e f = as-more k n.entry.made.op (ResolveOf k (entries (without_aside ns))) (ResolveOf k (entries ns)) f (subst (λ z. ResolveOf k (entries z)) (without-cons n ns false e) r)
 
-own-with : (ns : List Noted) → OwnCyclesEnd (entries (without_aside ns)) → OwnCyclesEnd (entries ns)
+own-with : (ns : List Noted) → AllCyclesEnd (entries (without_aside ns)) → AllCyclesEnd (entries ns)
 own-with [] r = r
 own-with (n ∷ ns) r = by (is_aside n) refl (own-with ns)
   where
-    by : (b : Bool) → is_aside n ≡ b → (OwnCyclesEnd (entries (without_aside ns)) → OwnCyclesEnd (entries ns)) → OwnCyclesEnd (entries (n ∷ ns))
-    by true e f = (read-own n.entry.made.op (entries ns) (aside-read n e), f (subst (λ z. OwnCyclesEnd (entries z)) (without-cons n ns true e) r))
-    by false e f = (let w = subst (λ z. OwnCyclesEnd (entries z)) (without-cons n ns false e) r in
+    by : (b : Bool) → is_aside n ≡ b → (AllCyclesEnd (entries (without_aside ns)) → AllCyclesEnd (entries ns)) → AllCyclesEnd (entries (n ∷ ns))
+    by true e f = (read-own n.entry.made.op (entries ns) (aside-read n e), f (subst (λ z. AllCyclesEnd (entries z)) (without-cons n ns true e) r))
+    by false e f = (let w = subst (λ z. AllCyclesEnd (entries z)) (without-cons n ns false e) r in
         (own-more n.entry.made.op (entries (without_aside ns)) (entries ns) (λ k. resolve-with k ns) w.0, f w.1))
 
-pub linked-end : (h : Finished) (noted : List Noted) → IsLinkedBy h noted → AllCyclesEnd h.entries → OwnCyclesEnd h.entries
+pub linked-end : (h : Finished) (noted : List Noted) → IsLinkedBy h noted → AllCyclesClose h.entries → AllCyclesEnd h.entries
 linked-end h noted l a =
     let lawful = reading_is_lawful noted (noted, (managed_end noted).cells, l.lawful) in
-    subst OwnCyclesEnd l.same (own-with noted (own-ends opening_linkage (without_aside noted) lawful (ended-without noted (subst AllCyclesEnd (sym l.same) a))))
+    subst AllCyclesEnd l.same (own-with noted (own-ends opening_linkage (without_aside noted) lawful (ended-without noted (subst AllCyclesClose (sym l.same) a))))

@@ -15,7 +15,7 @@ use Rattle.joint_machine.specs.Told.{Noted}
 use Rattle.joint_machine.specs.PeerReplay.{is_thread}
 use Rattle.std.specs.Prelude.{if◌then◌else◌}
 use Rattle.script_laws.specs.Holding.{entries_by}
-use Rattle.script_laws.specs.Ending.{ResolvesLater, ResolveComes, IsEnded, AllCyclesEnd}
+use Rattle.script_laws.specs.Closing.{ResolvesLater, ResolveComes, CycleCloses, AllCyclesClose}
 use Rattle.script_laws.specs.EndingLaws.{ThreadHistoryEnds}
 use Rattle.script_laws.proofs.Ending.{held-thread-end}
 use Rattle.known_laws.specs.PastEntries.{entries}
@@ -44,12 +44,12 @@ other-resolves (M u) (op.Resolve k) A n e r = tt
 other-resolves (P u) (op.Resolve k) A n e r = tt
 other-resolves t o A n e r = r
 
-pub ended-more : (o : Op) (es fs : List Entry) → (ResolveComes es → ResolveComes fs) → IsEnded o es → IsEnded o fs
+pub ended-more : (o : Op) (es fs : List Entry) → (ResolveComes es → ResolveComes fs) → CycleCloses o es → CycleCloses o fs
 ended-more (op.Abandon k) es fs f e = e
 ended-more (op.Snap k) es fs f e = f e
 ended-more o es fs f e = tt
 
-other-ended : (t : Thread) (o : Op) (es : List Entry) → (t ≡ C → ⊥) → IsEvent t o → IsEnded o es
+other-ended : (t : Thread) (o : Op) (es : List Entry) → (t ≡ C → ⊥) → IsEvent t o → CycleCloses o es
 other-ended C o es n e = absurd (n refl)
 other-ended (M u) (op.Snap k) es n e = absurd e
 other-ended (P u) (op.Snap k) es n e = absurd e
@@ -67,18 +67,18 @@ comes-among (e ∷ es) a r = by e.made.caller a.0 (comes-among es a.1) r
     by (M u) v f r = other-resolves (M u) e.made.op (ResolveComes es) (λ z. cc) v (f r)
     by (P u) v f r = other-resolves (P u) e.made.op (ResolveComes es) (λ z. cc) v (f r)
 
-ended-among : (es : List Entry) → AreAllEvents es → AllCyclesEnd (entries_by C es) → AllCyclesEnd es
+ended-among : (es : List Entry) → AreAllEvents es → AllCyclesClose (entries_by C es) → AllCyclesClose es
 ended-among [] a d = tt
 ended-among (e ∷ es) a d = by e.made.caller a.0 (ended-among es a.1) d
   where
-    by : (t : Thread) → IsEvent t e.made.op → (AllCyclesEnd (entries_by C es) → AllCyclesEnd es)
-        → AllCyclesEnd (if is_thread C t then e ∷ entries_by C es else entries_by C es) → IsEnded e.made.op es × AllCyclesEnd es
+    by : (t : Thread) → IsEvent t e.made.op → (AllCyclesClose (entries_by C es) → AllCyclesClose es)
+        → AllCyclesClose (if is_thread C t then e ∷ entries_by C es else entries_by C es) → CycleCloses e.made.op es × AllCyclesClose es
     by C v f d = (ended-more e.made.op (entries_by C es) es (comes-among es a.1) d.0, f d.1)
     by (M u) v f d = (other-ended (M u) e.made.op es (λ z. cc) v, f d)
     by (P u) v f d = (other-ended (P u) e.made.op es (λ z. cc) v, f d)
 
 -- where the driver's entries end each cycle, a linked history does
-pub drivers_ends : (h : Finished) (noted : List Noted) → IsLinkedBy h noted → AllCyclesEnd (entries_by C h.entries) → AllCyclesEnd h.entries
+pub drivers_ends : (h : Finished) (noted : List Noted) → IsLinkedBy h noted → AllCyclesClose (entries_by C h.entries) → AllCyclesClose h.entries
 drivers_ends h noted l ends = ended-among h.entries (subst AreAllEvents l.same (all-events noted (managed_end noted).cells opening_linkage noted l.lawful)) ends
 
 pub thread_history_ends : ThreadHistoryEnds

@@ -252,13 +252,13 @@ among_held (P n) = meanwhile (nat_eq n 1)
 among_held C = cycle-held
 
 pub among_ends : AllCyclesEnd a_thread_meanwhile
-among_ends = (tt, (tt, (tt, (tt, (tt, (tt, (tt, (tt, tt))))))))
+among_ends = (refl, (tt, (tt, (tt, (tt, (tt, (tt, (tt, tt))))))))
 
 pub abandoned : AllCyclesEnd abandoning → ⊥
 abandoned a = a.0
 
 pub unheld : (script : List (Thread × Act)) → HoldsInOrder script abandoning → ⊥
-unheld script h = abandoned (held-end script abandoning h)
+unheld script h = (held-end script abandoning h).0
 
 -- where the span of a snap begins
 abbrev first_in : Reply → ℕ

@@ -8,25 +8,25 @@ use Rattle.joint_machine.specs.Histories.{Finished}
 use Rattle.joint_machine.specs.LinkedHistories.{IsLinkedBy}
 use Rattle.joint_machine.specs.Told.{Noted}
 use Rattle.script_laws.specs.Holding.{HoldsInOrder, HoldsPerThread, entries_by}
-use Rattle.script_laws.specs.Ending.{AllCyclesEnd, OwnCyclesEnd}
+use Rattle.script_laws.specs.Closing.{AllCyclesClose}
+use Rattle.script_laws.specs.Ending.{AllCyclesEnd}
 
--- a history that holds a script's lines in order ends each cycle
+-- a history that holds a script's lines in order closes each cycle
 abbrev pub HeldCyclesEnd : Type 0
 HeldCyclesEnd = (script : List (Thread × Act)) (entries : List Entry)
-    → HoldsInOrder script entries → AllCyclesEnd entries
+    → HoldsInOrder script entries → AllCyclesClose entries
 
 -- and so do the driver's entries of a history that holds them thread by thread
 abbrev pub HeldThreadCyclesEnd : Type 0
 HeldThreadCyclesEnd = (script : List (Thread × Act)) (entries : List Entry)
-    → HoldsPerThread script entries → AllCyclesEnd (entries_by C entries)
+    → HoldsPerThread script entries → AllCyclesClose (entries_by C entries)
 
--- in a linked history it is its own resolve that comes after each snap
+-- in a linked history it is its own resolve that comes after each snap, so each cycle ends
 abbrev pub LinkedCyclesEnd : Type 0
 LinkedCyclesEnd = (h : Finished) (noted : List Noted)
-    → IsLinkedBy h noted → AllCyclesEnd h.entries → OwnCyclesEnd h.entries
+    → IsLinkedBy h noted → AllCyclesClose h.entries → AllCyclesEnd h.entries
 
--- so a linked history that holds a script's lines thread by thread ends each cycle too, whatever the others do
--- meanwhile
+-- a linked history that holds a script's lines thread by thread closes each cycle too, whatever the others do meanwhile
 abbrev pub ThreadHistoryEnds : Type 0
 ThreadHistoryEnds = (script : List (Thread × Act)) (h : Finished) (noted : List Noted)
-    → IsLinkedBy h noted → HoldsPerThread script h.entries → AllCyclesEnd h.entries
+    → IsLinkedBy h noted → HoldsPerThread script h.entries → AllCyclesClose h.entries

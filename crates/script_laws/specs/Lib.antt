@@ -1,5 +1,6 @@
 pub mod Holding
 pub mod SoFar
+pub mod Closing
 pub mod Ending
 pub mod EndingLaws
 pub mod Laws

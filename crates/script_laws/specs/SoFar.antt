@@ -1,5 +1,5 @@
 -- That entries are those of a script's first lines.
-use Rattle.std.specs.Prelude.{◌≡◌, ℕ, ◌+◌, List, [], ◌∷◌, ◌++◌}
+use Rattle.std.specs.Prelude.{◌≡◌, ℕ, List, [], ◌∷◌, ◌++◌}
 use Rattle.joint_machine.specs.declared.names.Thread.{Thread}
 use Rattle.joint_machine.specs.declared.lines.Act.{Act}
 use Rattle.joint_machine.specs.declared.events.Entry.{Entry}

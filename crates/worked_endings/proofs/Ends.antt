@@ -56,8 +56,7 @@ reads_refused = record {
 
 pub cycles_refused : AreCyclesRefused
 cycles_refused = record {
-  ends = (tt, (tt, (tt, (tt, tt))));
-  own_ends = (refl, (tt, (refl, (tt, tt))));
+  ends = (refl, (tt, (refl, (tt, tt))));
   abandoned = λ a. a.1.0;
   abandoned_unopened = λ a. a.0;
   unresolved = λ a. a.0;

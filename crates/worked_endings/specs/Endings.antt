@@ -8,7 +8,7 @@ use Rattle.joint_machine.specs.declared.events.Reply.{Reply}
 use Rattle.joint_machine.specs.declared.events.Op.TheVariants as op
 use Rattle.joint_machine.specs.declared.events.Reply.TheVariants as says
 use Rattle.joint_machine.specs.Told.{nothing, snap_of, sweep_of, resolution_of, Noted}
-use Rattle.script_laws.specs.Ending.{AllCyclesEnd, OwnCyclesEnd}
+use Rattle.script_laws.specs.Ending.{AllCyclesEnd}
 use Rattle.run_laws.specs.Final.{FreedReadsAreGone, FreedPeersAreGone}
 use Rattle.worked_histories.specs.Notes.{note, var, cell_no, name_no, object_no, peer_no, handle_no, cycle_no}
 use Rattle.worked_histories.specs.Notes.{marking_no, span}
@@ -56,11 +56,10 @@ entries_in noted = map (λ n. n.entry) noted
 -- each cycle is resolved by its own resolve before the next one is opened; whatever else is refused
 pub record AreCyclesRefused : Type 0 where
   pub ends : AllCyclesEnd (entries_in (opens 1 ∷ resolves 1 ∷ opens 2 ∷ resolves 2 ∷ []))
-  pub own_ends : OwnCyclesEnd (entries_in (opens 1 ∷ resolves 1 ∷ opens 2 ∷ resolves 2 ∷ []))
   pub abandoned : AllCyclesEnd (entries_in (opens 1 ∷ abandons 1 ∷ opens 2 ∷ resolves 2 ∷ [])) → ⊥
   pub abandoned_unopened : AllCyclesEnd (entries_in (abandons 1 ∷ [])) → ⊥
   pub unresolved : AllCyclesEnd (entries_in (opens 1 ∷ [])) → ⊥
   pub last_unresolved : AllCyclesEnd (entries_in (opens 1 ∷ resolves 1 ∷ opens 2 ∷ [])) → ⊥
   pub reopened : AllCyclesEnd (entries_in (opens 1 ∷ opens 2 ∷ resolves 2 ∷ [])) → ⊥
-  pub resolved_as_another : OwnCyclesEnd (entries_in (opens 1 ∷ resolves 2 ∷ [])) → ⊥
-  pub later_resolved_as_another : OwnCyclesEnd (entries_in (opens 1 ∷ resolves 1 ∷ opens 2 ∷ resolves 1 ∷ [])) → ⊥
+  pub resolved_as_another : AllCyclesEnd (entries_in (opens 1 ∷ resolves 2 ∷ [])) → ⊥
+  pub later_resolved_as_another : AllCyclesEnd (entries_in (opens 1 ∷ resolves 1 ∷ opens 2 ∷ resolves 1 ∷ [])) → ⊥
