@@ -1,35 +1,40 @@
 -- The driver's marking under the peer lock: after its sweep no marking is open, so its begin gives a number; and in its
 -- marked phase its own is open, whatever slices it has made.
-use Rattle.std.proofs.Common.{◌≡◌, ◌⊎◌, inl, ⊎_elim, ℕ, ◌<◌, ◌^◌, Bool, true, false, List, length, Option, Some, None, refl, sym, ap, ◌∙◌, subst}
+use Rattle.std.proofs.Common.{◌≡◌, inl, ℕ, ◌<◌, ◌^◌, Bool, true, false, List, length, Option, Some, None, refl, sym, ap, ◌∙◌, subst}
+use base.Growing.{prefix_refl}
 use Rattle.std.specs.Prelude.{IsSome}
 use Rattle.joint_machine.specs.declared.names.Marking.{Marking as Number}
 use Rattle.joint_machine.specs.declared.names.Span.{Span}
 use Rattle.joint_machine.specs.declared.names.Thread.{Thread}
 use Rattle.joint_machine.specs.declared.names.Thread.TheVariants.{C}
+use Rattle.joint_machine.specs.declared.events.Entry.{Entry}
 use Rattle.joint_machine.specs.declared.events.Op.TheVariants as op
 use Rattle.joint_machine.specs.declared.events.Reply.{Reply}
 use Rattle.joint_machine.specs.declared.events.Reply.TheVariants as says
 use Rattle.joint_machine.specs.Control.{OpenSnap, Stand, idle, snapped, contracted, weakening, marked, restoring, restored, MaySweepNow, stand_after}
-use Rattle.joint_machine.specs.Lines.{IsDriver}
 use Rattle.joint_machine.specs.Managed.{Managed, candidates_of}
 use Rattle.joint_machine.specs.PeerReplay.{PeerReplay, Marking, swept}
 use Rattle.joint_machine.specs.Sides.{Side, peer_rules}
 use Rattle.joint_machine.specs.Told.{Told, nothing, sweep_of}
 use Rattle.known_laws.proofs.Conditions.{marked_is_the_drivers, sweep_leaves_none}
 use Rattle.peer_heap.specs.declared.side.Swept.{Swept}
-use Rattle.peer_heap.specs.Sides.{IsDrivers, MayEnd}
+use Rattle.peer_heap.specs.Sides.{IsDrivers, IsMarkingOf, MayEnd, PeerModel, Reserve, is_own, reserve_begun, seen}
 use Rattle.order_table.specs.declared.views.View.{View}
-use Rattle.order_table.specs.Views.{OrderId, Shown, Owns}
-use Rattle.joint_history.specs.declared.marks.Begun.{Begun}
-use Rattle.joint_history.specs.Callers.{CallerKnows, HoldsPass}
+use Rattle.order_table.specs.Views.{OrderId, Shown, Owns, known}
+use Rattle.joint_history.specs.Callers.{HoldsPass}
 use Rattle.joint_history.specs.Driven.{DriverMakesNone, DriverStands, driver_entry}
-use Rattle.joint_history.specs.DriverMarks.{DrawsSweep, EndsFirst, HasBegunMarking, MakesBegin, MakesMark, MakesSweep, MayBeginMarking, MayEndMarking, MayMarkCycle, after_sweep}
-use Rattle.joint_history.specs.Locked.{Drew, PeerKnows}
+use Rattle.joint_history.specs.DriverMarks.{DrawsEnd, DrawsSweep, EndsFirst, HasBegunMarking, MakesBegin, MakesSweep, MayBeginMarking, MayEndMarking, MayMarkCycle, after_sweep}
+use Rattle.joint_history.specs.Knowing.{line_known}
+use Rattle.joint_history.specs.Locked.{Drew, PeerKnows, PeerReserves}
+use Rattle.joint_history.specs.Steps.{GoesFurther}
 use Rattle.seat_calls.specs.Passing.{Lends, Returns}
 use Rattle.joint_history.proofs.DeadParts.{count_same}
-use Rattle.joint_history.proofs.DriverHears.{driver_knows}
 use Rattle.joint_history.proofs.DriverPeerSteps.{DrivenUnderPeers, IsUnderPeers, driven_peers, under_peers}
 use Rattle.joint_history.proofs.DriverSnaps.{none_then_makes}
+use Rattle.joint_history.proofs.Fitting.{goes_further, same_further}
+use Rattle.joint_history.proofs.Lent.{bare, goes_on, lends_bare, pauses, returns_bare}
+use Rattle.joint_history.proofs.LockedSteps.{list_more}
+use Rattle.joint_history.proofs.Reserving.{begin_kept, drew_reserves, quiet_kept}
 
 -- the driver may end any marking
 pub driver_ends : (o : Option Marking) → MayEnd o C
@@ -45,12 +50,10 @@ marked_open side o seen u =
     let w = marked_is_the_drivers u.state u.kept o u.stood in
     subst (λ (s : PeerReplay). IsSome s.marking) u.peer (some_marking u.state.peer.marking w.0 w.1)
 
-pub is_open : (locked mine lent mine1 : View) (side : Side PeerReplay) (index : ℕ) → HoldsPass C mine → Owns locked 1 → PeerKnows locked side
-    → Lends C locked mine lent mine1 → IsSome side.state.marking ⊎ HasBegunMarking mine index → IsSome side.state.marking
-is_open locked mine lent mine1 side index pass owns ks l w = ⊎_elim
-    (λ (i : IsSome side.state.marking). i)
-    (λ (m : HasBegunMarking mine index). marked_open side.state m.opened m.seen (under_peers locked mine lent mine1 side index (marked m.opened) m.seen pass owns ks m.stands l))
-    w
+pub is_open : (locked mine lent mine1 : View) (side : Side PeerReplay) (index : ℕ) → HoldsPass C mine → Owns locked 1
+    → PeerKnows locked side → Lends C locked mine lent mine1 → HasBegunMarking mine index → IsSome side.state.marking
+is_open locked mine lent mine1 side index pass owns ks l m = marked_open side.state m.opened m.seen
+    (under_peers locked mine lent mine1 side index (marked m.opened) m.seen pass owns ks m.stands l)
 
 -- and the driver began it
 marked_own : (side : PeerReplay) (o : OpenSnap) (seen : Managed) → IsUnderPeers side (marked o) seen → IsDrivers side.marking
@@ -82,6 +85,43 @@ sweep_counts : (s : PeerReplay) (o : Option Marking) (freed : List ℕ) (j : Num
 sweep_counts s None freed j span e = (let f : says.Swept j span ≡ says.NoMark = e in cc)
 sweep_counts s (Some mk) freed j span e = ap count_in e
 
+-- after a sweep no marking is open
+pub sweep_closes : (order : OrderId) (seat seat' : Shown) (old new : Side PeerReplay) (index n : ℕ) (out : Swept) → DrawsSweep order seat seat' old new index n out → new.state.marking ≡ None
+sweep_closes order seat seat' old new index n out d = ap (λ (s : PeerReplay). s.marking) d.drew.goes.state ∙ sweep_leaves_none old.state None (sweep_of d.freed)
+
+-- whether one is open, by what the side answers
+pub none_open : (o : Option Marking) → IsMarkingOf None o → o ≡ None
+none_open None w = refl
+none_open (Some mk) w = absurd w
+
+pub one_open : (m : Number × Thread) (o : Option Marking) → IsMarkingOf (Some m) o → IsSome o
+one_open m None w = absurd w
+one_open m (Some mk) w = refl
+
+-- what the end of whatever was open leaves
+pub record LeavesNone (seat seat' : Shown) (old new : PeerModel) : Type 0 where
+  pub further : GoesFurther seat seat'
+  pub reserve : new.reserve ≡ old.reserve
+  pub threads : new.threads ≡ old.threads
+  pub line : line_known seat.view 1 ≡ old.entries → line_known seat'.view 1 ≡ new.entries
+
+pub leaves_none : (order : OrderId) (seat seat' : Shown) (old new : PeerModel) (index : ℕ) (o : Option (ℕ × Swept)) → DrawsEnd order seat seat' old new index o → LeavesNone seat seat' old new
+leaves_none order seat seat' old new index None d = record {
+  further = subst (GoesFurther seat) (sym d.0) (same_further seat);
+  reserve = ap (λ (x : PeerModel). x.reserve) d.1;
+  threads = ap (λ (x : PeerModel). x.threads) d.1;
+  line = λ e. ap (λ (z : Shown). line_known z.view 1) d.0 ∙ (e ∙ ap (λ (x : PeerModel). x.entries) (sym d.1));
+}
+leaves_none order seat seat' old new index (Some r) d =
+    let w = d.2.drew in
+    let e : Entry = driver_entry r.0 index op.Sweep (says.Swept r.1.marking r.1.freed) None in
+    record {
+      further = goes_further order seat seat' 1 w.kept w.appends;
+      reserve = d.1;
+      threads = d.0;
+      line = λ same. list_more seat.view seat'.view 1 w.kept e old.entries new.entries w.entry w.appends.grows same w.added;
+    }
+
 -- after a draw under the lock
 module _ (locked mine mine1 locked2 mine2 : View) (order : OrderId) (seat seat' : Shown) (old new : Side PeerReplay) (index : ℕ) (pass : HoldsPass C mine)
     (owns : Owns locked 1) (short : index < 2 ^ 32) (ks : PeerKnows locked old) (l : Lends C locked mine seat.view mine1) (b : Returns C seat'.view mine1 locked2 mine2) where
@@ -106,9 +146,6 @@ module _ (locked mine mine1 locked2 mine2 : View) (order : OrderId) (seat seat' 
 
   pub sweep_knows : (n : ℕ) (out : Swept) → DrawsSweep order seat seat' old new index n out → MayEndMarking mine index → PeerKnows locked2 new
   sweep_knows n out d w = (with_sweep n out d w.stand w.seen w.stands w.now).knows
-
-  pub sweep_closes : (n : ℕ) (out : Swept) → DrawsSweep order seat seat' old new index n out → new.state.marking ≡ None
-  sweep_closes n out d = ap (λ (s : PeerReplay). s.marking) d.drew.goes.state ∙ sweep_leaves_none old.state None (sweep_of d.freed)
 
   -- the begin
   with_begin : (n : ℕ) (j : Number) → Drew peer_rules 1 order seat seat' old new (driver_entry n index op.Begin (says.Mark j) None) nothing
@@ -157,8 +194,62 @@ none_then_sweep u v w index n out a t stand m s now =
       stands = d.stands;
     }
 
--- the driver's caller knows a past after it
-pub mark_knows : (t : Thread) (old new : View) (index : ℕ) (out : Begun) → IsDriver t → MayMarkCycle old index → MakesMark old new index out → CallerKnows t new
-mark_knows t old new index out is w m =
-    let n = may_begin old m.between index out.ended m.ends w in
-    driver_knows t new index (marked n.opened) n.seen is (m.begins n.opened n.count n.weakened n.swept n.seen n.stands n.all).stands
+-- what a sweep and a begin leave under the lock, with what is reserved
+pub record LeavesUnder (locked2 : View) (new : PeerModel) (Made : Type 0) : Type 0 where
+  pub knows : PeerKnows locked2 (seen new)
+  pub reserves : PeerReserves locked2 new
+  pub makes : Made
+
+module _ (locked mine mine1 locked2 mine2 : View) (order : OrderId) (seat seat' : Shown) (old new : PeerModel) (index : ℕ) (pass : HoldsPass C mine) (owns : Owns locked 1)
+    (short : index < 2 ^ 32) (ks : PeerKnows locked (seen old)) (rs : PeerReserves locked old) (l : Lends C locked mine seat.view mine1) (b : Returns C seat'.view mine1 locked2 mine2) where
+  pub swept_under : (n : ℕ) (out : Swept) → MayEndMarking mine index → DrawsSweep order seat seat' (seen old) (seen new) index n out
+      → new.reserve ≡ old.reserve → LeavesUnder locked2 new (MakesSweep mine mine2 index n out)
+  swept_under n out may d same =
+      let e : Entry = driver_entry n index op.Sweep (says.Swept out.marking out.freed) None in
+      record {
+        knows = sweep_knows locked mine mine1 locked2 mine2 order seat seat' (seen old) (seen new) index pass owns short ks l b n out d may;
+        reserves = drew_reserves C locked mine mine1 locked2 mine2 order seat seat' old new e (sweep_of d.freed) ks rs l d.drew b
+            (quiet_kept order seat seat' old new e (sweep_of d.freed) d.drew same tt (λ due. refl));
+        makes = sweep_made locked mine mine1 locked2 mine2 order seat seat' (seen old) (seen new) index pass owns short ks l b n out d;
+      }
+
+  begun_under : (n : ℕ) (j : Number) → MayBeginMarking mine index → Drew peer_rules 1 order seat seat' (seen old) (seen new) (driver_entry n index op.Begin (says.Mark j) None) nothing
+      → old.reserve.marking ≡ true → new.reserve ≡ reserve_begun (is_own C old.reserve.marking) old.reserve → LeavesUnder locked2 new (MakesBegin mine mine2 index n j)
+  begun_under n j may d due same = record {
+    knows = begin_knows locked mine mine1 locked2 mine2 order seat seat' (seen old) (seen new) index pass owns short ks l b n j d may;
+    reserves = drew_reserves C locked mine mine1 locked2 mine2 order seat seat' old new (driver_entry n index op.Begin (says.Mark j) None) nothing ks rs l d b
+        (begin_kept order seat seat' old new n index (says.Mark j) d due same);
+    makes = begin_made locked mine mine1 locked2 mine2 order seat seat' (seen old) (seen new) index pass owns short ks l b n j d;
+  }
+
+may_end_first : (v : View) (index : ℕ) → MayMarkCycle v index → MayEndMarking v index
+may_end_first v index w = record { stand = weakening w.opened w.count w.weakened false; seen = w.seen; stands = w.stands; now = (w.all, refl, refl) }
+
+none_made : (v : View) → DriverMakesNone v v
+none_made v = record { own = refl; more = λ i. prefix_refl (known v i); stands = λ index stand seen s. s }
+
+-- both in one hold of the lock: where a marking was open the seat stands between them as one that gave the driver's
+-- lines back and was lent them again
+pub record MarksFrom (mine mine2 : View) (index n : ℕ) (j : Number) (o : Option (ℕ × Swept)) : Type 0 where
+  pub between : View
+  pub ends : EndsFirst mine between index o
+  pub begins : MakesBegin between mine2 index n j
+
+pub marked_under : (locked mine mine1 locked2 mine2 : View) (order : OrderId) (seat mid seat' : Shown) (old cleared new : PeerModel) (index n : ℕ) (j : Number) (o : Option (ℕ × Swept))
+    → HoldsPass C mine → Owns locked 1 → index < 2 ^ 32 → PeerKnows locked (seen old) → PeerReserves locked old → MayMarkCycle mine index → Lends C locked mine seat.view mine1
+    → DrawsEnd order seat mid old cleared index o → Drew peer_rules 1 order mid seat' (seen cleared) (seen new) (driver_entry n index op.Begin (says.Mark j) None) nothing
+    → new.reserve ≡ reserve_begun (is_own C cleared.reserve.marking) cleared.reserve → old.reserve.marking ≡ true
+    → Returns C seat'.view mine1 locked2 mine2 → LeavesUnder locked2 new (MarksFrom mine mine2 index n j o)
+marked_under locked mine mine1 locked2 mine2 order seat mid seat' old cleared new index n j None pass owns short ks rs may l e d r due b =
+    let at = subst (λ (z : Shown × PeerModel). Drew peer_rules 1 order z.0 seat' (seen z.1) (seen new) (driver_entry n index op.Begin (says.Mark j) None) nothing) (λ i. (e.0 i, e.1 i)) d in
+    let same = subst (λ (z : PeerModel). new.reserve ≡ reserve_begun (is_own C z.reserve.marking) z.reserve) e.1 r in
+    let q = begun_under locked mine mine1 locked2 mine2 order seat seat' old new index pass owns short ks rs l b n j (may_begin mine mine index None (none_made mine) may) at due same in
+    record { knows = q.knows; reserves = q.reserves; makes = record { between = mine; ends = none_made mine; begins = q.makes } }
+marked_under locked mine mine1 locked2 mine2 order seat mid seat' old cleared new index n j (Some w) pass owns short ks rs may l e d r due b =
+    let f = goes_further order seat mid 1 e.2.drew.kept e.2.drew.appends in
+    let s = swept_under locked mine (bare mine) mid.view mid.view order seat mid old cleared index pass owns short ks rs (lends_bare C locked mine seat.view mine1 l)
+    (pauses C mid.view mine) w.0 w.1 (may_end_first mine index may) e.2 e.1 in
+    let q = begun_under mid.view mid.view (bare mid.view) locked2 mine2 order mid seat' cleared new index (λ i g. f.owns i (l.lines i g (pass i g))) (f.owns 1 (l.kept 1 owns)) short
+    s.knows s.reserves (goes_on C mid.view e.2.drew.appends.one_history) (returns_bare C seat'.view mine1 locked2 mine2 mid.view b)
+    n j (may_begin mine mid.view index (Some w) s.makes may) d (ap (λ (x : Reserve). x.marking) e.1 ∙ due) r in
+    record { knows = q.knows; reserves = q.reserves; makes = record { between = mid.view; ends = s.makes; begins = q.makes } }

@@ -109,3 +109,18 @@ peer_may n t order mine lent mine1 s o own side w = record {
   cycles = λ z. absurd (omega arith);
   cells = λ z. absurd (omega arith);
 }
+
+-- and later in the same hold
+pub peer_may_on : (t : Thread) (order : OrderId) (seat seat' : Shown) (o : Op) → GoesFurther seat seat' → MayAppend order seat 1 t o None → MayAppend order seat' 1 t o None
+peer_may_on t order seat seat' o f m = record {
+  same = f.order ∙ m.same;
+  thread = m.thread;
+  one = m.one;
+  managed = m.managed;
+  peer = m.peer;
+  role = f.owns 1 m.role;
+  pass = f.owns (caller_line t) m.pass;
+  paid = λ z. absurd (omega arith);
+  cycles = λ z. absurd (omega arith);
+  cells = λ z. absurd (omega arith);
+}

@@ -2,6 +2,7 @@
 -- own begins; later the driver ends that one.
 use Rattle.std.specs.Prelude.{◌≡◌, ℕ, Bool, true, false, List, [], length, Option, Some, None}
 use Rattle.joint_machine.specs.declared.names.Marking.{Marking}
+use Rattle.joint_machine.specs.declared.names.Thread.TheVariants.{C}
 use Rattle.joint_machine.specs.declared.events.Op.TheVariants as op
 use Rattle.joint_machine.specs.declared.events.Reply.TheVariants as says
 use Rattle.joint_machine.specs.Control.{OpenSnap, Stand, weakening, marked, restoring, MaySweepNow}
@@ -10,6 +11,7 @@ use Rattle.joint_machine.specs.PeerReplay.{PeerReplay}
 use Rattle.joint_machine.specs.Sides.{Side, peer_rules}
 use Rattle.joint_machine.specs.Told.{nothing, sweep_of}
 use Rattle.peer_heap.specs.declared.side.Swept.{Swept}
+use Rattle.peer_heap.specs.Sides.{PeerModel, is_own, reserve_begun, seen}
 use Rattle.order_table.specs.declared.views.View.{View}
 use Rattle.order_table.specs.Views.{OrderId, Shown}
 use Rattle.joint_history.specs.declared.marks.Begun.{Begun}
@@ -22,6 +24,23 @@ pub record DrawsSweep (order : OrderId) (seat seat' : Shown)
   pub freed : List ℕ
   pub drew : Drew peer_rules 1 order seat seat' side side'
       (driver_entry n index op.Sweep (says.Swept out.marking out.freed) None) (sweep_of freed)
+
+-- so it was of the whole side, or none was open and nothing was done
+abbrev pub DrawsEnd : OrderId → Shown → Shown → PeerModel → PeerModel → ℕ → Option (ℕ × Swept) → Type 0
+DrawsEnd order seat seat' side side' index None = (seat' ≡ seat) × (side' ≡ side)
+DrawsEnd order seat seat' side side' index (Some r) = (side'.threads ≡ side.threads)
+    × (side'.reserve ≡ side.reserve) × DrawsSweep order seat seat' (seen side) (seen side') index r.0 r.1
+
+-- the driver's own marking was begun, after one that was open was ended
+pub record DrawsMark (order : OrderId) (seat seat' : Shown)
+    (side side' : PeerModel) (index : ℕ) (begun : Begun) : Type 0 where
+  pub between : Shown
+  pub cleared : PeerModel
+  pub ends : DrawsEnd order seat between side cleared index begun.ended
+  pub begins : Drew peer_rules 1 order between seat' (seen cleared) (seen side')
+      (driver_entry begun.number index op.Begin (says.Mark begun.marking) None) nothing
+  pub reserve : side'.reserve ≡ reserve_begun (is_own C cleared.reserve.marking) cleared.reserve
+  pub threads : side'.threads ≡ cleared.threads
 
 -- the driver may end a marking: all its candidates' handles are weakened and it hasn't ended one, or its own is begun
 pub record MayEndMarking (v : View) (index : ℕ) : Type 0 where

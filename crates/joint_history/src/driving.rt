@@ -21,7 +21,7 @@ use crate::callers::Caller;
 use crate::driven::{Abandoning, Contraction, Finalising, Refusal, Resolution};
 use crate::handles::{Clearing, Restoring, Weakening};
 use crate::keeping::{Keep, Keeps};
-use crate::marks::{Begun, Blackening};
+use crate::marks::{Beginning, Begun, Blackening, Sweeping};
 use crate::shared::Shared;
 use crate::snaps::Snapping;
 use crate::steps::Step;
@@ -241,10 +241,7 @@ impl<N: OrderName, K: Keeps<N>> Shared<N, K> {
         ensures thread { driver.new.thread ≡ driver.old.thread }
         ensures makes { MakesMark driver.old.view driver.new.view index result }
     {
-        self.peers
-            .hold(rt)
-            .value()
-            .mark(&self.order, &mut driver.seat, index)
+        self.drive_peers(rt, driver, Beginning { index })
     }
 
     // A slice of the driver's own marking, in one hold of the peer lock. Answers whether nothing is left to blacken.
@@ -280,10 +277,7 @@ impl<N: OrderName, K: Keeps<N>> Shared<N, K> {
         ensures thread { driver.new.thread ≡ driver.old.thread }
         ensures makes { MakesSweep driver.old.view driver.new.view index result.0 result.1 }
     {
-        self.peers
-            .hold(rt)
-            .value()
-            .sweep(&self.order, &mut driver.seat, index)
+        self.drive_peers(rt, driver, Sweeping { index })
     }
 
     /// The driver ends its cycle's own marking: the peers that it doesn't reach are freed. Most of it is marked in

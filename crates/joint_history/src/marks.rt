@@ -2,7 +2,7 @@
 // left open is ended in the same hold of the lock, and the memory was reserved before the cycle was mirrored. Its own
 // marking goes on in slices, one in each hold.
 
-ghost use Rattle.std.specs.Prelude.{◌≡◌, ◌⊎◌, ℕ, IsSome, None, true};
+ghost use Rattle.std.specs.Prelude.{◌≡◌, IsSome, None, Some, true};
 ghost use Rattle.joint_machine.specs.declared.names.Thread.TheVariants.{C};
 ghost use Rattle.joint_machine.specs.declared.events.Op.TheVariants as op;
 ghost use Rattle.joint_machine.specs.declared.events.Reply.TheVariants as says;
@@ -10,20 +10,17 @@ ghost use Rattle.joint_machine.specs.Sides.{peer_rules};
 ghost use Rattle.joint_machine.specs.Told.{nothing};
 ghost use Rattle.order_table.specs.Allowed.{Settled};
 ghost use Rattle.peer_heap.specs.Sides.{IsDrivers, is_own, reserve_begun, seen};
-ghost use Rattle.joint_history.specs.Callers.{HoldsPass};
 ghost use Rattle.joint_history.specs.Driven.{DriverMakesNone, driver_entry};
-ghost use Rattle.joint_history.specs.DriverMarks.{DrawsSweep, EndsFirst, HasBegunMarking, MakesBegin, MakesMark};
-ghost use Rattle.joint_history.specs.DriverMarks.{MakesSweep, MayBeginMarking, MayEndMarking, MayMarkCycle};
+ghost use Rattle.joint_history.specs.DriverMarks.{DrawsEnd, DrawsMark, MakesMark, MakesSweep};
 ghost use Rattle.joint_history.specs.Knowing.{line_known};
 ghost use Rattle.joint_history.specs.Locked.{Drew};
 ghost use Rattle.seat_calls.specs.Passing.{MayAppend};
 
-use crate::peer::LockedPeer;
 use crate::steps::Step;
 use joint_model::{Marking, Thread};
-use order_table::{Order, OrderName, Role, Seat};
+use order_table::{Order, Role, Seat};
 use peer_heap::{PeerSide, SliceEnd, Swept};
-use seat_calls::{give_back, lend, seat_drawing};
+use seat_calls::seat_drawing;
 
 // How many peers the driver blackens in one hold of the peer lock.
 const SLICE: u32 = 64;
@@ -62,21 +59,46 @@ impl Step for Blackening {
     }
 }
 
-// The side draws the sweep of its open marking by the seat. It takes no memory.
-fn draw_sweep(side: &mut PeerSide, order: &Order, seat: &mut Seat, index: u32) -> (u64, Swept)
-    requires open { IsSome side.old.state.marking }
+/// The sweep of the open marking, which is the driver's own or one that a peer thread left open. It answers the entry's
+/// number, the marking, and where the peers that it freed stand among all that were freed. It takes no memory.
+#[derive(Drop)]
+pub(crate) struct Sweeping {
+    pub(crate) index: u32,
+}
+
+impl Step for Sweeping {
+    type On = PeerSide;
+
+    type Out = (u64, Swept);
+
+    ghost asks = { λ t order seat s. IsSome s.state.marking
+        × MayAppend order seat 1 C op.Sweep None × (line_known seat.view 1 ≡ s.entries) };
+
+    ghost drew = { λ t order seat seat' s s' r. DrawsEnd order seat seat' s s' t.index (Some r) };
+
+    ghost makes = { λ t mine mine' r. MakesSweep mine mine' t.index r.0 r.1 };
+
+    fn draw(self, side: &mut PeerSide, order: &Order, seat: &mut Seat) -> (u64, Swept) {
+        let mut drawing = seat_drawing!(order, seat, Role::Peer);
+        match side.sweep(&mut drawing, Thread::C, self.index) {
+            Ok(swept) => (drawing.last, swept),
+            Err(_) => unreachable!(),
+        }
+    }
+}
+
+// Ends the open marking, if there is one. It takes no memory.
+fn end_open(side: &mut PeerSide, order: &Order, seat: &mut Seat, index: u32) -> Option<(u64, Swept)>
     requires may { MayAppend order.now seat.old 1 C op.Sweep None }
     requires settled { Settled seat.old.view }
     requires entries { line_known seat.old.view 1 ≡ side.old.entries }
     ensures settled { Settled seat.new.view }
-    ensures drew { DrawsSweep order.now seat.old seat.new (seen side.old) (seen side.new) index result.0 result.1 }
-    ensures reserve { side.new.reserve ≡ side.old.reserve }
-    ensures threads { side.new.threads ≡ side.old.threads }
+    ensures closed { side.new.state.marking ≡ None }
+    ensures ends { DrawsEnd order.now seat.old seat.new side.old side.new index result }
 {
-    let mut drawing = seat_drawing!(order, seat, Role::Peer);
-    match side.sweep(&mut drawing, Thread::C, index) {
-        Ok(swept) => (drawing.last, swept),
-        Err(_) => unreachable!(),
+    match side.marking() {
+        None => None,
+        Some(_) => Some(Sweeping { index }.draw(side, order, seat)),
     }
 }
 
@@ -101,78 +123,28 @@ fn draw_begin(side: &mut PeerSide, order: &Order, seat: &mut Seat, index: u32) -
     }
 }
 
-impl<N: OrderName> LockedPeer<N> {
-    /// Ends the open marking, which is the cycle's own or one that a peer thread left open, and answers the entry's
-    /// number, the marking, and where the peers that it freed stand among all that were freed. `mine` is the driver's
-    /// seat, which knows the entry then. It takes no memory.
-    pub(crate) fn sweep(&mut self, order: &Order, mine: &mut Seat, index: u32) -> (u64, Swept)
-        requires order { (order.now ≡ N.order) × (mine.old.order ≡ N.order) }
-        requires settled { Settled mine.old.view }
-        requires pass { HoldsPass C mine.old.view }
-        requires open { IsSome self.old.side.state.marking ⊎ HasBegunMarking mine.old.view index }
-        requires may { MayEndMarking mine.old.view index }
-        ensures order { mine.new.order ≡ N.order }
-        ensures settled { Settled mine.new.view }
-        ensures pass { HoldsPass C mine.new.view }
-        ensures closed { self.new.side.state.marking ≡ None }
-        ensures makes { MakesSweep mine.old.view mine.new.view index result.0 result.1 }
-    {
-        lend(order, &mut self.seat, mine, Thread::C);
-        let out = draw_sweep(&mut self.side, order, &mut self.seat, index);
-        give_back(order, &mut self.seat, mine, Thread::C);
-        out
-    }
+/// The begin of the driver's own marking, after the end of one that a peer thread left open: so it always gives a
+/// number. It takes no memory.
+#[derive(Drop)]
+pub(crate) struct Beginning {
+    pub(crate) index: u32,
+}
 
-    // Begins the cycle's own marking, where none is open. It takes no memory.
-    fn begin(&mut self, order: &Order, mine: &mut Seat, index: u32) -> (u64, Marking)
-        requires order { (order.now ≡ N.order) × (mine.old.order ≡ N.order) }
-        requires settled { Settled mine.old.view }
-        requires pass { HoldsPass C mine.old.view }
-        requires closed { self.old.side.state.marking ≡ None }
-        requires may { MayBeginMarking mine.old.view index }
-        ensures order { mine.new.order ≡ N.order }
-        ensures settled { Settled mine.new.view }
-        ensures pass { HoldsPass C mine.new.view }
-        ensures makes { MakesBegin mine.old.view mine.new.view index result.0 result.1 }
-    {
-        lend(order, &mut self.seat, mine, Thread::C);
-        let made = draw_begin(&mut self.side, order, &mut self.seat, index);
-        give_back(order, &mut self.seat, mine, Thread::C);
-        made
-    }
+impl Step for Beginning {
+    type On = PeerSide;
 
-    // Ends the open marking, if there is one.
-    fn end_open(&mut self, order: &Order, mine: &mut Seat, index: u32) -> Option<(u64, Swept)>
-        requires order { (order.now ≡ N.order) × (mine.old.order ≡ N.order) }
-        requires settled { Settled mine.old.view }
-        requires pass { HoldsPass C mine.old.view }
-        requires may { MayMarkCycle mine.old.view index }
-        ensures order { mine.new.order ≡ N.order }
-        ensures settled { Settled mine.new.view }
-        ensures pass { HoldsPass C mine.new.view }
-        ensures closed { self.new.side.state.marking ≡ None }
-        ensures ends { EndsFirst mine.old.view mine.new.view index result }
-    {
-        if self.side.marking().is_none() {
-            return None;
-        }
-        Some(self.sweep(order, mine, index))
-    }
+    type Out = Begun;
 
-    /// Begins the driver's own marking, after it has ended one that a peer thread left open; so the begin always gives
-    /// a number. `mine` is the driver's seat, which knows the entries then. It takes no memory.
-    pub(crate) fn mark(&mut self, order: &Order, mine: &mut Seat, index: u32) -> Begun
-        requires order { (order.now ≡ N.order) × (mine.old.order ≡ N.order) }
-        requires settled { Settled mine.old.view }
-        requires pass { HoldsPass C mine.old.view }
-        requires may { MayMarkCycle mine.old.view index }
-        ensures order { mine.new.order ≡ N.order }
-        ensures settled { Settled mine.new.view }
-        ensures pass { HoldsPass C mine.new.view }
-        ensures makes { MakesMark mine.old.view mine.new.view index result }
-    {
-        let ended = self.end_open(order, mine, index);
-        let (number, marking) = self.begin(order, mine, index);
+    ghost asks = { λ t order seat s. (s.reserve.marking ≡ true) × MayAppend order seat 1 C op.Sweep None
+        × MayAppend order seat 1 C op.Begin None × (line_known seat.view 1 ≡ s.entries) };
+
+    ghost drew = { λ t order seat seat' s s' begun. DrawsMark order seat seat' s s' t.index begun };
+
+    ghost makes = { λ t mine mine' begun. MakesMark mine mine' t.index begun };
+
+    fn draw(self, side: &mut PeerSide, order: &Order, seat: &mut Seat) -> Begun {
+        let ended = end_open(side, order, seat, self.index);
+        let (number, marking) = draw_begin(side, order, seat, self.index);
         Begun {
             ended,
             number,

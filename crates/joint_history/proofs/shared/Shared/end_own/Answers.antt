@@ -1,32 +1,32 @@
-use Rattle.std.proofs.Common.{[], inr, refl, sym, subst}
-use Rattle.joint_machine.specs.Control.{marked, restoring}
-use Rattle.joint_machine.specs.Lines.{IsDriver}
-use Rattle.joint_history.specs.Callers.{Pass}
-use Rattle.joint_history.specs.DriverMarks.{HasBegunMarking, MakesSweep}
-use Rattle.joint_history.proofs.DriverHears.{driver_knows, driver_pass, driver_pass_back, driver_reads}
-use Rattle.joint_history.proofs.DriverMarks.{may_end_own}
+use Rattle.std.proofs.Common.{◌<◌, ◌^◌, refl, arith, ◌∙◌}
+use Rattle.joint_machine.specs.declared.names.Thread.TheVariants.{C}
+use Rattle.joint_machine.specs.declared.events.Op.TheVariants as op
+use Rattle.joint_machine.specs.Control.{marked}
+use Rattle.peer_heap.specs.Sides.{seen}
+use Rattle.joint_history.proofs.DriverMarks.{is_open, may_end_own, swept_under}
+use Rattle.joint_history.proofs.Fitting.{goes_further, peer_line, peer_may}
 use Rattle.joint_history.proofs.shared.Shared.end_own.Goals as goal
 
-pub sweep-requires-clause-pass : goal.sweep-requires-clause-pass
-sweep-requires-clause-pass g c = driver_pass c.driver.inside.thread c.driver.inside.seat.view (subst (λ (p : Pass). IsDriver p.thread) (sym c.driver.view_is) c.requires.driver) c.driver.invariant.2
+pub drive_peers-requires-clause-fits : goal.drive_peers-requires-clause-fits
+drive_peers-requires-clause-fits g c =
+    let may = c.requires.may in
+    let mine = c.args.driver.now.view in
+    let index = c.args.index in
+    let short : index < 2 ^ 32 = omega (arith, c.ranges.index.fits) in
+    record {
+      side = omega arith;
+      asked = λ order lent mine1 s w. (
+        is_open w.locked mine lent.view mine1 (seen s) index w.pass w.owns w.known_side.0 w.lends may,
+        peer_may _ C order mine lent mine1 s op.Sweep refl refl w,
+        peer_line _ C order mine lent mine1 s w,
+      );
+      further = λ order lent lent2 s s2 r d. goes_further order lent lent2 1 d.2.drew.kept d.2.drew.appends;
+      left = λ order lent lent2 mine1 locked2 mine2 s s2 r w d b.
+          (let q = swept_under w.locked mine mine1 locked2 mine2 order lent lent2 s s2 index w.pass w.owns short w.known_side.0 w.known_side.1 w.lends b
+          r.0 r.1 (may_end_own mine index may) d.2 d.1 in ((q.knows, q.reserves, d.0 ∙ w.known_side.2), q.makes));
+    }
 
-pub sweep-requires-clause-open : goal.sweep-requires-clause-open
-sweep-requires-clause-open g c = inr (subst (λ (p : Pass). HasBegunMarking p.view c.args.index) (sym c.driver.view_is) c.requires.may)
-
-pub sweep-requires-clause-may : goal.sweep-requires-clause-may
-sweep-requires-clause-may g c = may_end_own c.driver.inside.seat.view c.args.index (subst (λ (p : Pass). HasBegunMarking p.view c.args.index) (sym c.driver.view_is) c.requires.may)
-
-pub invariant_of-driver : goal.invariant_of-driver
-invariant_of-driver g c =
-    let driver = subst (λ (p : Pass). IsDriver p.thread) (sym c.driver.view_is) c.requires.driver in
-    let may = subst (λ (p : Pass). HasBegunMarking p.view c.args.index) (sym c.driver.view_is) c.requires.may in (
-      c.driver.invariant.0,
-      c.sweep.ensures.order,
-      driver_pass_back c.driver.inside.thread c.sweep.new.mine.view driver c.sweep.ensures.pass,
-      driver_knows c.driver.inside.thread c.sweep.new.mine.view c.args.index (restoring may.opened []) may.seen driver (c.sweep.ensures.makes (marked may.opened) may.seen may.stands refl).stands,
-      c.sweep.ensures.settled,
-      driver_reads c.driver.inside.thread c.driver.inside.seat.view c.sweep.new.mine.view c.driver.inside.reads.entries driver c.driver.invariant.5,
-    )
-
-pub returns-clause-makes : goal.returns-clause-makes
-returns-clause-makes g c = subst (λ (p : Pass). MakesSweep p.view c.sweep.new.mine.view c.args.index c.sweep.result.0 c.sweep.result.1) c.driver.view_is c.sweep.ensures.makes
+pub drive_peers-requires-clause-knows : goal.drive_peers-requires-clause-knows
+drive_peers-requires-clause-knows g c = λ w r made.
+    let may = c.requires.may in
+    (made (marked may.opened) may.seen may.stands refl).stands.known

@@ -1,4 +1,4 @@
-use Rattle.std.proofs.Common.{inr, sym, ap, subst, arith, ◌∙◌}
+use Rattle.std.proofs.Common.{sym, ap, subst, arith, ◌∙◌}
 use Rattle.joint_machine.specs.declared.names.Thread.TheVariants.{C}
 use Rattle.joint_machine.specs.Control.{marked}
 use Rattle.peer_heap.specs.Sides.{PeerModel, seen}
@@ -21,7 +21,7 @@ drive_peers-requires-clause-fits g c =
     record {
       side = omega arith;
       asked = λ order lent mine1 s w. (
-        is_open w.locked mine lent.view mine1 (seen s) index w.pass w.owns w.known_side.0 w.lends (inr may),
+        is_open w.locked mine lent.view mine1 (seen s) index w.pass w.owns w.known_side.0 w.lends may,
         is_own_marking w.locked mine lent.view mine1 (seen s) index w.pass w.owns w.known_side.0 w.lends may,
       );
       further = λ order lent lent2 s s2 r d. subst (λ (z : Shown). GoesFurther lent z) (sym d.0) (same_further lent);
