@@ -5,16 +5,15 @@ use Rattle.std.specs.Prelude.{Result, Ok, Err, IfOk, OnErr}
 use mathlib.Core.List.{IsPrefix}
 use base.Growing.{prefix_refl, prefix_trans}
 use Rattle.joint_machine.specs.declared.names.Thread.{Thread}
-use Rattle.joint_machine.specs.declared.names.Thread.TheVariants.{C}
 use Rattle.joint_machine.specs.declared.events.Op.{Op}
 use Rattle.joint_machine.specs.HistoryLines.{caller_line}
 use Rattle.joint_machine.specs.Lines.{is_peer_event, is_read}
+use Rattle.joint_machine.proofs.Deciding.{none_some}
 use Rattle.managed_heap.specs.Sides.{ManagedModel, as_side}
 use Rattle.order_table.specs.declared.views.KeptEntry.{KeptEntry}
 use Rattle.order_table.specs.declared.views.View.{View}
 use Rattle.order_table.specs.Allowed.{HoldsOpen, MayDo}
 use Rattle.order_table.specs.Facts.{line_entries}
-use Rattle.order_table.specs.Owed.{mark}
 use Rattle.order_table.specs.Rows.{at}
 use Rattle.order_table.specs.Stages.{deed, neither}
 use Rattle.order_table.specs.Views.{OrderId, Owns, Shown, known}
@@ -24,10 +23,10 @@ use Rattle.view_laws.specs.Knowing.{IsDrawnView}
 use Rattle.joint_history.specs.Knowing.{line_known}
 use Rattle.joint_history.specs.Locked.{HasAppended, StaysSeated}
 use Rattle.joint_history.specs.Steps.{GoesFurther, HasManagedSeat, IsLent, KnowsManaged, KnowsPeers}
-use Rattle.joint_history.proofs.CycleDraws.{driver_may}
 use Rattle.joint_history.proofs.KnownCallers.{own_line}
 use Rattle.joint_history.proofs.Lent.{knows_lent}
 use Rattle.joint_history.proofs.LockedSteps.{grows_more, owns_on}
+use Rattle.joint_history.proofs.SeatDraws.{sets_none}
 
 pub goes_further : (order : OrderId) (seat seat' : Shown) (r : ℕ) (k : KeptEntry) → HasAppended order seat seat' r k → GoesFurther seat seat'
 goes_further order seat seat' r k a = record {
@@ -86,13 +85,23 @@ peer_line n t order mine lent mine1 s w = ap line_entries (w.lends.whole 1 w.own
 neither_may : (v : View) (o : Op) → deed o ≡ neither → HoldsOpen v → MayDo v (deed o)
 neither_may v o e h = subst (MayDo v) (sym e) (⊎_elim (λ c. inl c.0) (λ c. inr c.1) h)
 
--- the driver's entry that opens and ends no cycle and sets no cell
-pub managed_may : (n : ℕ) (order : OrderId) (mine : View) (lent : Shown) (mine1 : View) (s : ManagedModel) (o : Op) → is_read o ≡ false
-    → is_peer_event C o ≡ false → mark o None ≡ None → deed o ≡ neither → IsLent 0 (KnowsManaged n) C order mine lent mine1 s → MayAppend order lent 0 C o None
-managed_may n order mine lent mine1 s o own side plain calm w =
+-- an entry of the managed list that opens and ends no cycle and sets no cell
+pub managed_may : (n : ℕ) (t : Thread) (order : OrderId) (mine : View) (lent : Shown) (mine1 : View) (s : ManagedModel) (o : Op) → is_read o ≡ false
+    → is_peer_event t o ≡ false → deed o ≡ neither → IsLent 0 (KnowsManaged n) t order mine lent mine1 s → MayAppend order lent 0 t o None
+managed_may n t order mine lent mine1 s o own side calm w =
     let owns = w.lends.kept 0 w.owns in
-    driver_may order lent o w.same own side plain owns (lent_pass 0 (KnowsManaged n) C order mine lent mine1 s w)
-    (w.settled.paid, w.settled.stored.0, w.settled.stored.1) (neither_may lent.view o calm (w.settled.gate owns))
+    record {
+      same = w.same;
+      thread = w.thread;
+      one = omega arith;
+      managed = λ z. (own, side);
+      peer = λ z. absurd (omega arith);
+      role = owns;
+      pass = lent_pass 0 (KnowsManaged n) t order mine lent mine1 s w;
+      paid = λ z. (w.settled.paid, w.settled.stored.0, w.settled.stored.1);
+      cycles = λ z. neither_may lent.view o calm (w.settled.gate owns);
+      cells = λ z c m e. absurd (none_some (c, m) (sym (sets_none t o) ∙ e));
+    }
 
 -- an entry of the peer list
 pub peer_may : (n : ℕ) (t : Thread) (order : OrderId) (mine : View) (lent : Shown) (mine1 : View) (s : PeerModel) (o : Op) → is_read o ≡ false

@@ -41,3 +41,4 @@ pub mod Collecting
 pub mod SeatsKnow
 pub mod Crosses
 pub mod Fitting
+pub mod EventSteps

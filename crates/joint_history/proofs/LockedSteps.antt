@@ -19,7 +19,7 @@ use Rattle.joint_machine.specs.Linked.{Linkage, peer_after}
 use Rattle.joint_machine.specs.ManagedReplay.{ManagedReplay, opening_replay}
 use Rattle.joint_machine.specs.PeerReplay.{PeerReplay, peer_answer, opening_peer_replay}
 use Rattle.joint_machine.specs.Sides.{Side, SideRules, managed_rules, peer_rules, GoesOn}
-use Rattle.joint_machine.specs.Told.{Told, Noted, nothing}
+use Rattle.joint_machine.specs.Told.{Told, Noted}
 use Rattle.joint_machine.specs.PinsTold.{bare_told, pins_told}
 use Rattle.known_laws.specs.Drawn.{drawn, drawn_by}
 use Rattle.known_laws.specs.Known.{Comes, PinsStand, managed_past, past_after}
@@ -43,7 +43,7 @@ use Rattle.view_laws.proofs.DrawnViews.{drawn_views_grow}
 use Rattle.joint_history.specs.Callers.{HoldsPass, KeepsReads, KnowsNothing, ReadsStay}
 use Rattle.joint_history.specs.Knowing.{line_known, note_of}
 use Rattle.joint_history.specs.Locked.{Drew, StaysSeated, made_by, ManagedKnows, PeerKnows, SideKnows, Stands, MayMake, IsTurn, Makes, MakesNone, doing_of, doing_from}
-use Rattle.joint_history.specs.PeerCalls.{DrawsEvent}
+use Rattle.joint_history.specs.Steps.{MakesEvent}
 use Rattle.joint_history.proofs.KnownCallers.{own_line}
 use Rattle.joint_history.proofs.KnownViews.{JoinedViews, entries_snoc, lines_join, same_view, no_view}
 use Rattle.joint_history.proofs.Standing.{last_of_own, doing_of_own}
@@ -310,23 +310,11 @@ pub record DrawsTold {S : Type 0} (rules : SideRules S) (r : ℕ) (asks : S → 
   pub asked : asks old.state told
   pub drew : Drew rules r order seat seat' old new e told
 
--- so it is where nothing is told, and of an event of the peer side, whatever it tells
-pub plainly : {E : Type 0} (result : Result (ℕ × Reply) E) (order : OrderId) (seat seat' : Shown) (old new : Side ManagedReplay) (make : ℕ × Reply → Entry)
-    → IfOk result (λ x. Drew managed_rules 0 order seat seat' old new (make x) nothing) → IfOk result (λ x. DrawsTold managed_rules 0 StandsTold order seat seat' old new (make x))
-plainly (Ok x) order seat seat' old new make d = record { told = nothing; asked = none_stand old.state.managed; drew = d }
-plainly (Err x) order seat seat' old new make d = tt
-
-pub by_event : {E : Type 0} (result : Result (ℕ × Reply) E) (order : OrderId) (seat seat' : Shown) (old new : Side PeerReplay) (make : ℕ × Reply → Entry)
-    → IfOk result (λ x. DrawsEvent order seat seat' old new (make x)) → IfOk result (λ x. DrawsTold peer_rules 1 NoneTold order seat seat' old new (make x))
-by_event (Ok x) order seat seat' old new make d = record { told = d.told; asked = tt; drew = d.drew }
-by_event (Err x) order seat seat' old new make d = tt
-
 -- after a side's call, whether it made an entry or none
-pub record Called {S E : Type 0} (r : ℕ) (part : Linkage → S) (t : Thread) (mine locked2 mine2 : View) (side : Side S) (result : Result (ℕ × Reply) E) (make : ℕ × Reply → Entry) : Type 0 where
+pub record Called {S E : Type 0} (r : ℕ) (part : Linkage → S) (t : Thread) (index : ℕ) (o : Op) (cites : Option ℕ)
+    (mine locked2 mine2 : View) (side : Side S) (result : Result (ℕ × Reply) E) : Type 0 where
   pub knows : SideKnows r part locked2 side
-  pub ok : IfOk result (λ x. Makes t mine mine2 (make x))
-  pub reads : ReadsStay t mine mine2
-  pub err : OnErr result (MakesNone t mine mine2)
+  pub makes : MakesEvent t index o cites mine mine2 result
 
 module _ {S : Type 0} {rules : SideRules S} {r : ℕ} {part : Linkage → S} {asks : S → Told → Type 0} (is_side : IsSide rules r part asks) where
   pub side_entered : (t : Thread) (mine : View) (order : OrderId) (lent lent2 : Shown) (old new : Side S) (e : Entry) (told : Told) (j : IsDrawnView lent.view)
@@ -384,33 +372,23 @@ module _ {S : Type 0} {rules : SideRules S} {r : ℕ} {part : Linkage → S} {as
       (locked mine mine1 locked2 mine2 : View) (seat seat' : Shown) (old new : Side S) (result : Result (ℕ × Reply) E)
       → IsThread t → HoldsPass t mine → Owns locked r → index < 2 ^ 32 → SideKnows r part locked old → MayMake t mine index o cites → Lends t locked mine seat.view mine1
       → IfOk result (λ x. DrawsTold rules r asks order seat seat' old new (numbered x.0 (made_by t index o x.1 cites)))
-      → OnErr result (StaysSeated seat seat' × (new ≡ old)) → Returns t seat'.view mine1 locked2 mine2
-      → Called r part t mine locked2 mine2 new result (λ x. numbered x.0 (made_by t index o x.1 cites))
+      → OnErr result (StaysSeated seat seat' × (new ≡ old)) → Returns t seat'.view mine1 locked2 mine2 → Called r part t index o cites mine locked2 mine2 new result
   called t index o cites order locked mine mine1 locked2 mine2 seat seat' old new (Ok x) is pass owns short ks may l d e b =
       let j = lent_joined t locked mine seat.view mine1 l ks.known may.stands.known in
       let now = thread_may t j.joined.known.past mine (made_by t index o x.1 cites) d.told may (own_told t locked mine seat.view mine1 l ks.known may.stands.known pass) in
       let w = did_by t locked mine mine1 locked2 mine2 order seat seat' old new
       (numbered x.0 (made_by t index o x.1 cites)) d.told may.stands.known is pass owns refl short ks l now d.asked d.drew b in
-      record { knows = w.knows; ok = subst (Makes t mine mine2) d.drew.entry w.makes; reads = w.reads; err = tt }
+      record { knows = w.knows; makes = record { ok = subst (Makes t mine mine2) d.drew.entry w.makes; reads = w.reads; err = tt } }
   called t index o cites order locked mine mine1 locked2 mine2 seat seat' old new (Err x) is pass owns short ks may l d e b =
       let back = returns_seated t seat seat' mine1 locked2 mine2 e.0 b in
       record {
         knows = subst (SideKnows r part locked2) (sym e.1) (knows_still t locked mine seat.view mine1 locked2 mine2 old owns ks may.stands.known l back);
-        ok = tt;
-        reads = reads_rest t locked mine seat.view mine1 locked2 mine2 pass l back;
-        err = makes_none t locked mine seat.view mine1 locked2 mine2 ks.known pass l back;
+        makes = record {
+          ok = tt;
+          reads = reads_rest t locked mine seat.view mine1 locked2 mine2 pass l back;
+          err = makes_none t locked mine seat.view mine1 locked2 mine2 ks.known pass l back;
+        };
       }
-
-  -- so the seat knows and owns what it did
-  pub drew_more : {E : Type 0} (order : OrderId) (seat seat' : Shown) (old new : Side S) (make : ℕ × Reply → Entry) (result : Result (ℕ × Reply) E)
-      → IfOk result (λ x. DrawsTold rules r asks order seat seat' old new (make x)) → OnErr result (StaysSeated seat seat' × (new ≡ old)) → (i : ℕ) → IsPrefix (known seat.view i) (known seat'.view i)
-  drew_more order seat seat' old new make (Ok x) d e i = grows_more seat.view seat'.view r d.drew.kept d.drew.appends.grows i
-  drew_more order seat seat' old new make (Err x) d e i = subst (IsPrefix (known seat.view i)) (sym (ap (λ ks. at [] ks i) e.0.known)) (prefix_refl (known seat.view i))
-
-  pub drew_owns : {E : Type 0} (order : OrderId) (seat seat' : Shown) (old new : Side S) (make : ℕ × Reply → Entry) (result : Result (ℕ × Reply) E)
-      → IfOk result (λ x. DrawsTold rules r asks order seat seat' old new (make x)) → OnErr result (StaysSeated seat seat' × (new ≡ old)) → (i : ℕ) → Owns seat.view i → Owns seat'.view i
-  drew_owns order seat seat' old new make (Ok x) d e i o = owns_on seat.view seat'.view r d.drew.kept d.drew.appends.grows i o
-  drew_owns order seat seat' old new make (Err x) d e i o = ap (λ os. at false os i) e.0.owns ∙ o
 
 -- a side at its opening, with a seat that knows nothing
 pub opening_managed_knows : (v : View) (s : Side ManagedReplay) → KnowsNothing v → s.entries ≡ [] → s.state ≡ opening_replay → ManagedKnows v s

@@ -394,7 +394,7 @@ breaks_none t old new index a (Ok x) is line b = tt
 breaks_none t old new index a (Err x) is line b = peer_makes_none t old new index a is line b
 
 -- a read is its own operation, and cites nothing
-starts_bare : (d : Doing) (cites : Option ℕ) → MayStart d cites → cites ≡ None
+pub starts_bare : (d : Doing) (cites : Option ℕ) → MayStart d cites → cites ≡ None
 starts_bare free cites w = w
 starts_bare (made n l p h sort f) cites w = w
 starts_bare (lent n l h x) cites w = w

@@ -2,7 +2,7 @@
 -- cell has a target, only a snapshot and a resolution free objects, and only a snapshot and a `take` are told with
 -- pins. After a plain entry, which does nothing to the cycles and to no pin and frees nothing, the seat is settled as
 -- it was.
-use Rattle.std.proofs.Common.{◌≡◌, inl, inr, ℕ, false, true, List, [], ◌∷◌, ◌++◌, Option, None, refl, sym, ◌∙◌, subst, arith, true≢false}
+use Rattle.std.proofs.Common.{◌≡◌, inl, inr, ℕ, false, true, List, [], ◌∷◌, ◌++◌, Option, None, refl, sym, ap, ◌∙◌, subst, arith, true≢false}
 use Rattle.joint_machine.specs.declared.names.MNum.{MNum}
 use Rattle.joint_machine.specs.declared.names.Thread.{Thread}
 use Rattle.joint_machine.specs.declared.names.Thread.TheVariants.{M, P, C}
@@ -21,7 +21,7 @@ use Rattle.joint_machine.specs.PinsTold.{bare_told, no_pins, pins_told}
 use Rattle.known_laws.proofs.Bared.{peer_unpinned, plain_pins}
 use Rattle.known_laws.proofs.Coming.{peer_reads_none}
 use Rattle.order_table.specs.Allowed.{Settled}
-use Rattle.order_table.specs.Owed.{freed_told, pin_deed, stays, target_told}
+use Rattle.order_table.specs.Owed.{freed_told, mark, pin_deed, stays, target_told}
 use Rattle.order_table.specs.Stages.{deed, neither}
 use Rattle.order_table.specs.Views.{OrderId, Shown, kept, pins_kept}
 use Rattle.managed_heap.specs.Steps.{IsManagedStep}
@@ -47,6 +47,15 @@ target_kept s t o r e side = refl
 no_target : (t : Thread) (o : Op) → target_told t o None ≡ None
 no_target (M n) (op.Line (act.Weak k v)) = refl
 no_target t o = refl
+
+-- where no object is given no cell is set
+pub sets_none : (t : Thread) (o : Op) → mark o (target_told t o None) ≡ None
+sets_none t o = ap (mark o) (no_target t o) ∙ bare o
+  where
+    bare : (q : Op) → mark q None ≡ None
+    bare (op.Line (act.Weak k v)) = refl
+    bare (op.Line a) = refl
+    bare q = refl
 
 -- and so are the objects that it frees
 freed_kept : (s : ManagedReplay) (o : Op) (x : Told) → ManagedAllows s o x → freed_told o (objects_freed x) ≡ objects_freed x

@@ -1,7 +1,7 @@
 -- A `take` by the managed seat: what its thread's pin holds stands, and it is what is told with the entry. The entry
 -- leaves the pin empty, and nothing to be done but its clearing.
 use Rattle.std.proofs.Common.{◌≡◌, inl, inr, ⊎_elim, ℕ, zero, suc, ◌+◌, ◌<◌, List, [], Option, Some, None, refl, sym, ap, ◌∙◌, subst, arith}
-use Rattle.std.specs.Prelude.{MatchOption, Result, Ok, Err, IfOk, slice_set}
+use Rattle.std.specs.Prelude.{MatchOption, slice_set}
 use Rattle.std.proofs.lemmas.Bool.{cases_eq}
 use Rattle.joint_machine.specs.declared.names.MNum.{MNum}
 use Rattle.joint_machine.specs.declared.names.Thread.{Thread}
@@ -12,9 +12,7 @@ use Rattle.joint_machine.specs.HistoryLines.{caller_line}
 use Rattle.joint_machine.specs.Lines.{IsManagedThread}
 use Rattle.joint_machine.specs.ManagedReplay.{ManagedReplay}
 use Rattle.joint_machine.specs.Run.{thread_number}
-use Rattle.joint_machine.specs.Draws.{numbered}
-use Rattle.joint_machine.specs.Sides.{Side, managed_rules, step_made}
-use Rattle.joint_machine.specs.Told.{kept_pins, nothing}
+use Rattle.joint_machine.specs.Sides.{Side, step_made}
 use Rattle.joint_machine.specs.PinsTold.{no_pins}
 use Rattle.joint_machine.proofs.Deciding.{none_some}
 use Rattle.known_laws.specs.Known.{PinsStand}
@@ -38,8 +36,7 @@ use Rattle.seat_calls.proofs.After.{owes_clearing}
 use Rattle.view_laws.specs.Knowing.{pins_of}
 use Rattle.view_laws.proofs.HeldViews.{pins_of_views_stand}
 use Rattle.view_laws.proofs.PinWords.{object-more}
-use Rattle.joint_history.specs.Locked.{ManagedKnows, TakesPin, made_by}
-use Rattle.joint_history.proofs.LockedSteps.{DrawsTold, StandsTold}
+use Rattle.joint_history.specs.Locked.{ManagedKnows}
 
 -- what the owner of the managed list finds in the pin of a thread whose lines it has
 abbrev pub FindsPin : View → ℕ → Option MNum → Type 0
@@ -92,6 +89,12 @@ taken_told seat (M n) x reader o is e f = given_is seat.view n o is.0 (omega (ar
 taken_told seat (P n) x reader o is e f = absurd is
 taken_told seat C x reader o is e f = absurd is
 
+-- the line of the thread's pin is its own
+pub pin_line : (t : Thread) (reader : ℕ) (v : View) → IsManagedThread t → reader ≡ thread_number t → Owns v (caller_line t) → Owns v (reader + 10)
+pin_line (M n) reader v is e o = subst (λ i. Owns v (i + 10)) (sym e) o
+pin_line (P n) reader v is e o = absurd is
+pin_line C reader v is e o = absurd is
+
 -- after its entry
 pub record LeavesPin (w : View) (reader : ℕ) : Type 0 where
   pub empty : pin (known w (reader + 10)) ≡ 0
@@ -125,10 +128,3 @@ take_may order seat (M n) x aim is same owns pass settled = record {
 }
 take_may order seat (P n) x aim is same owns pass settled = absurd is
 take_may order seat C x aim is same owns pass settled = absurd is
-
--- what was told with it, if it was made
-pub took_pin : {E : Type 0} (order : OrderId) (seat seat' : Shown) (old new : Side ManagedReplay) (t : Thread) (index : ℕ) (x : Var) (result : Result (ℕ × Reply) E)
-    → IfOk result (λ r. TakesPin order seat seat' old new t index x r)
-    → IfOk result (λ r. DrawsTold managed_rules 0 StandsTold order seat seat' old new (numbered r.0 (made_by t index (take_op x) r.1 None)))
-took_pin order seat seat' old new t index x (Ok r) d = record { told = kept_pins (pin_given (thread_number t) d.pin) nothing; asked = d.stands; drew = d.drew }
-took_pin order seat seat' old new t index x (Err e) d = tt

@@ -1,20 +1,25 @@
 -- What a step of a locked side owes: it is made by the side's seat, between the lending of a caller's lines and their
 -- giving back.
-use Rattle.std.specs.Prelude.{◌≡◌, ℕ, ◌<◌}
+use Rattle.std.specs.Prelude.{◌≡◌, ℕ, ◌<◌, Option, Result, IfOk, OnErr}
 use mathlib.Core.List.{IsPrefix}
 use Rattle.joint_machine.specs.declared.names.Thread.{Thread}
+use Rattle.joint_machine.specs.declared.events.Op.{Op}
+use Rattle.joint_machine.specs.declared.events.Reply.{Reply}
+use Rattle.joint_machine.specs.Draws.{numbered}
 use Rattle.joint_machine.specs.HistoryLines.{caller_line}
 use Rattle.joint_machine.specs.Lines.{IsThread}
 use Rattle.joint_machine.specs.ManagedReplay.{ManagedReplay}
-use Rattle.joint_machine.specs.Sides.{Side}
+use Rattle.joint_machine.specs.Sides.{Side, managed_rules}
+use Rattle.joint_machine.specs.Told.{Told}
 use Rattle.managed_heap.specs.Sides.{ManagedModel, as_side}
 use Rattle.order_table.specs.declared.views.View.{View}
 use Rattle.order_table.specs.Allowed.{Settled}
 use Rattle.order_table.specs.Views.{OrderId, Shown, known, Owns}
 use Rattle.peer_heap.specs.Sides.{PeerModel, seen}
 use Rattle.seat_calls.specs.Passing.{Lends, Returns}
-use Rattle.joint_history.specs.Callers.{HoldsPass}
-use Rattle.joint_history.specs.Locked.{ManagedKnows, PeerKnows, PeerReserves}
+use Rattle.joint_history.specs.Callers.{HoldsPass, ReadsStay}
+use Rattle.joint_history.specs.Locked.{Drew, Makes, MakesNone, ManagedKnows, PeerKnows, PeerReserves, StaysSeated}
+use Rattle.joint_history.specs.Locked.{made_by}
 
 -- what the managed side's seat knows under its lock, in a run with so many managed threads
 abbrev pub KnowsManaged : ℕ → View → ManagedModel → Type 0
@@ -64,3 +69,17 @@ pub record Fits {S R : Type 0} (line : ℕ) (knows : View → S → Type 0) (t :
   pub left : (order : OrderId) (lent lent2 : Shown) (mine1 locked2 mine2 : View) (s s' : S) (r : R)
       → IsLent line knows t order mine lent mine1 s → drew order lent lent2 s s' r
       → Returns t lent2.view mine1 locked2 mine2 → knows locked2 s' × makes mine mine2 r
+
+-- the managed side drew an entry by its seat, with that told beside it, or found no memory and is as it was
+abbrev pub DrewManaged : {E : Type 0} → Thread → ℕ → Op → Option ℕ → Told → OrderId
+    → Shown → Shown → ManagedModel → ManagedModel → Result (ℕ × Reply) E → Type 0
+DrewManaged t index o cites told order seat seat' s s' result = (s'.threads ≡ s.threads)
+    × IfOk result (λ r. Drew managed_rules 0 order seat seat' (as_side s) (as_side s')
+    (numbered r.0 (made_by t index o r.1 cites)) told) × OnErr result (StaysSeated seat seat' × (as_side s' ≡ as_side s))
+
+-- an event makes its entry for its thread, or none where there was no memory; the thread's reads stay as they are
+pub record MakesEvent {E : Type 0} (t : Thread) (index : ℕ) (o : Op)
+    (cites : Option ℕ) (old new : View) (result : Result (ℕ × Reply) E) : Type 0 where
+  pub ok : IfOk result (λ r. Makes t old new (numbered r.0 (made_by t index o r.1 cites)))
+  pub reads : ReadsStay t old new
+  pub err : OnErr result (MakesNone t old new)

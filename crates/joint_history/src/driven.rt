@@ -8,20 +8,18 @@ ghost use Rattle.joint_machine.specs.declared.events.Op.TheVariants as op;
 ghost use Rattle.joint_model.specs.Listed.{answers_of};
 ghost use Rattle.joint_machine.specs.Managed.{OpenCycle};
 ghost use Rattle.joint_machine.specs.ManagedReplay.{MayRefuse};
-ghost use Rattle.joint_machine.specs.Sides.{managed_rules};
 ghost use Rattle.joint_machine.specs.Told.{nothing, phase_of};
 ghost use Rattle.managed_heap.specs.Calls.{MayContractWith, contract_op};
 ghost use Rattle.managed_heap.specs.Resolving.{MayClose};
 ghost use Rattle.managed_heap.specs.Sides.{as_side};
 ghost use Rattle.seat_calls.specs.Passing.{MayAppend};
 ghost use Rattle.joint_history.specs.Driven.{DriverMakesNone, MakesAbandon, MakesContraction, MakesFinalise};
-ghost use Rattle.joint_history.specs.Driven.{MakesRefusal, MakesResolution, driver_entry};
+ghost use Rattle.joint_history.specs.Driven.{MakesRefusal, MakesResolution};
 ghost use Rattle.joint_history.specs.DriverDraws.{DrawsAbandon, DrawsContraction, DrawsResolution};
 ghost use Rattle.joint_history.specs.Knowing.{line_known};
-ghost use Rattle.joint_history.specs.Locked.{Drew, StaysSeated};
-ghost use Rattle.joint_history.specs.Steps.{HasManagedSeat};
+ghost use Rattle.joint_history.specs.Steps.{DrewManaged, HasManagedSeat};
 
-use crate::managed::{LiveObjects, draw_step};
+use crate::managed::{LiveObjects, ManagedEvent};
 use crate::steps::Step;
 use joint_model::{Act, Alive, Op, Phase, PhaseWord, Reply, Thread};
 use managed_heap::{ManagedSide, ResolveOut};
@@ -136,10 +134,8 @@ impl Step for Refusal {
     ghost asks = { λ t order seat s. MayRefuse s.state t.word t.phase
         × MayAppend order seat 0 C (op.Refused t.word) None × (line_known seat.view 0 ≡ s.entries) };
 
-    ghost drew = { λ t order seat seat' s s' result. (s'.threads ≡ s.threads)
-        × IfOk result (λ r. Drew managed_rules 0 order seat seat' (as_side s) (as_side s')
-        (driver_entry r.0 t.index (op.Refused t.word) r.1 None) (phase_of t.phase))
-        × OnErr result (StaysSeated seat seat' × (as_side s' ≡ as_side s)) };
+    ghost drew = { λ t order seat seat' s s' result.
+        DrewManaged C t.index (op.Refused t.word) None (phase_of t.phase) order seat seat' s s' result };
 
     ghost makes = { λ t mine mine' result.
         IfOk result (λ r. MakesRefusal mine mine' t.index r.0 t.word t.phase r.1)
@@ -174,10 +170,8 @@ impl Step for Finalising {
     ghost asks = { λ t order seat s. (1 ≤ t.count) × (t.count ≤ 65535)
         × MayAppend order seat 0 C (op.Line (act.Finalise t.count)) None × (line_known seat.view 0 ≡ s.entries) };
 
-    ghost drew = { λ t order seat seat' s s' result. (s'.threads ≡ s.threads)
-        × IfOk result (λ r. Drew managed_rules 0 order seat seat' (as_side s) (as_side s')
-        (driver_entry r.0 t.index (op.Line (act.Finalise t.count)) r.1 None) nothing)
-        × OnErr result (StaysSeated seat seat' × (as_side s' ≡ as_side s)) };
+    ghost drew = { λ t order seat seat' s s' result.
+        DrewManaged C t.index (op.Line (act.Finalise t.count)) None nothing order seat seat' s s' result };
 
     ghost makes = { λ t mine mine' result.
         IfOk result (λ r. MakesFinalise mine mine' t.index r.0 t.count r.1)
@@ -190,6 +184,12 @@ impl Step for Finalising {
         seat: &mut Seat,
     ) -> Result<(u64, Reply), AllocError> {
         let op = Op::Line(Act::Finalise { n: self.count });
-        draw_step(side, order, seat, Thread::C, self.index, &op, None)
+        let event = ManagedEvent {
+            caller: Thread::C,
+            index: self.index,
+            op: &op,
+            cites: None,
+        };
+        event.draw(side, order, seat)
     }
 }

@@ -34,9 +34,9 @@
 // caller, although no lock covers both sides, and nothing has to be proved of threads. That this stays so as seats go
 // on is said by the laws of `view_laws`. Every seat that is kept between calls is settled: it owes no store of a word.
 //
-// `specs/` read alone tells what is true: Knowing first, then Callers, Locked, SeatFacts and Desks, then PeerCalls,
-// Operations, Collecting and Driven with the other files of the driver, and last Ending; and of `view_laws` Knowing, of
-// `seat_calls` Passing, of `weak_wait` Reads.
+// `specs/` read alone tells what is true: Knowing first, then Callers, Locked, SeatFacts and Desks, then Steps,
+// PeerCalls, Operations, Collecting and Driven with the other files of the driver, and last Ending; and of `view_laws`
+// Knowing, of `seat_calls` Passing, of `weak_wait` Reads.
 #![tactic(auto)]
 
 mod callers;

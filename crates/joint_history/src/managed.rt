@@ -3,30 +3,28 @@
 ghost use Rattle.std.specs.Prelude.{◌≡◌, ◌<◌, ◌≤◌, ◌+◌, ℕ, [], IfOk, None, OnErr};
 ghost use Rattle.joint_machine.specs.declared.events.Op.TheVariants as op;
 ghost use Rattle.joint_machine.specs.Draws.{numbered};
-ghost use Rattle.joint_machine.specs.HistoryLines.{caller_line};
 ghost use Rattle.joint_machine.specs.Lines.{IsManagedThread, IsThread, IsVar};
 ghost use Rattle.joint_machine.specs.ManagedReplay.{opening_replay};
 ghost use Rattle.joint_machine.specs.Run.{thread_number};
-ghost use Rattle.joint_machine.specs.Sides.{TakesManaged, managed_rules};
+ghost use Rattle.joint_machine.specs.Sides.{TakesManaged};
 ghost use Rattle.joint_machine.specs.Told.{nothing};
 ghost use Rattle.order_table.specs.Allowed.{Settled};
 ghost use Rattle.order_table.specs.Views.{Owns};
-ghost use Rattle.seat_calls.specs.Passing.{MayAppend};
 ghost use Rattle.weak_wait.specs.Reads.{IsRead};
 ghost use Rattle.managed_heap.specs.Sides.{as_side};
 ghost use Rattle.managed_heap.specs.Steps.{CitesRightly, IsFresh, IsManagedStep, take_op, weak_op};
-ghost use Rattle.joint_history.specs.Callers.{HoldsPass, KeepsReads, KnowsNothing, ReadsStay};
+ghost use Rattle.seat_calls.specs.Passing.{MayAppend};
+ghost use Rattle.joint_history.specs.Callers.{HoldsPass, KeepsReads, KnowsNothing};
 ghost use Rattle.joint_history.specs.Knowing.{line_known};
-ghost use Rattle.joint_history.specs.Locked.{Drew, Makes, MakesNone, ManagedKnows, MayMake, StaysSeated, TakesPin};
-ghost use Rattle.joint_history.specs.Locked.{made_by};
+ghost use Rattle.joint_history.specs.Locked.{Makes, ManagedKnows, MayMake, StaysSeated, TakesPin, made_by};
 ghost use Rattle.joint_history.specs.Operations.{ReadsExactly};
-ghost use Rattle.joint_history.specs.Steps.{Fits, KnowsManaged};
+ghost use Rattle.joint_history.specs.Steps.{DrewManaged, Fits, HasManagedSeat, KnowsManaged, MakesEvent};
 
 use crate::steps::{Step, make};
 use joint_model::{Act, Cell, Entries, Holding, MNum, Op, Reply, Thread, Var};
 use managed_heap::ManagedSide;
 use order_table::{Order, OrderName, Role, Seat};
-use seat_calls::{Lives, give_back, lend, own_pin, read_locked, seat_drawing, settle_taken};
+use seat_calls::{Lives, own_pin, read_locked, seat_drawing, settle_taken};
 use std::alloc::{AllocError, Global};
 use std::marker::{Model, PhantomData};
 use weak_wait::reply_of;
@@ -71,65 +69,80 @@ impl<'a> Lives for LiveObjects<'a> {
     }
 }
 
-/// The side draws by the seat: what is said here is what that leaves in both, and nothing else.
-#[inline(always)]
-pub(crate) fn draw_step(
-    side: &mut ManagedSide,
-    order: &Order,
-    seat: &mut Seat,
-    caller: Thread,
-    index: u32,
-    op: &Op,
-    cites: Option<u64>,
-) -> Result<(u64, Reply), AllocError>
-    requires event { IsManagedStep caller op.now }
-    requires fresh { IsFresh side.old.state op.now }
-    requires cites { CitesRightly op.now cites }
-    requires takes { TakesManaged side.old.threads caller }
-    requires may { MayAppend order.now seat.old 0 caller op.now None }
-    requires settled { Settled seat.old.view }
-    requires entries { line_known seat.old.view 0 ≡ side.old.entries }
-    ensures settled { Settled seat.new.view }
-    ensures drew { IfOk result (λ r. Drew managed_rules 0 order.now seat.old seat.new (as_side side.old)
-        (as_side side.new) (numbered r.0 (made_by caller index op.now r.1 cites)) nothing) }
-    ensures threads { side.new.threads ≡ side.old.threads }
-    ensures err { OnErr result (StaysSeated seat.old seat.new × (as_side side.new ≡ as_side side.old)) }
-{
-    let mut drawing = seat_drawing!(order, seat, Role::Managed);
-    let reply = side.step(&mut drawing, caller, index, op, cites)?;
-    Ok((drawing.last, reply))
+/// One event of a thread, or of the driver, that stands in the managed side's list and is neither a `weak` nor a
+/// `take`. It answers its entry's number and the reply; `AllocError` where there is no memory, and no entry is made
+/// then.
+#[derive(Drop)]
+pub(crate) struct ManagedEvent<'a> {
+    pub(crate) caller: Thread,
+    pub(crate) index: u32,
+    pub(crate) op: &'a Op,
+    pub(crate) cites: Option<u64>,
 }
 
-// The same of a `weak`, which sets the cell's word by the seat where it sets the cell.
-fn draw_weak(
-    side: &mut ManagedSide,
-    order: &Order,
-    seat: &mut Seat,
-    caller: Thread,
-    index: u32,
-    k: Cell,
-    v: Var,
-) -> Result<(u64, Reply), AllocError>
-    requires thread { IsManagedThread caller }
-    requires cell { k.0 < 64 }
-    requires var { IsVar v }
-    requires takes { TakesManaged side.old.threads caller }
-    requires order { seat.old.order ≡ order.now }
-    requires owner { Owns seat.old.view 0 × Owns seat.old.view (caller_line caller) }
-    requires settled { Settled seat.old.view }
-    requires knows { ManagedKnows seat.old.view (as_side side.old) }
-    ensures drew { IfOk result (λ r. Drew managed_rules 0 order.now seat.old seat.new (as_side side.old)
-        (as_side side.new) (numbered r.0 (made_by caller index (weak_op k v) r.1 None)) nothing) }
-    ensures settled { Settled seat.new.view }
-    ensures threads { side.new.threads ≡ side.old.threads }
-    ensures err { OnErr result (StaysSeated seat.old seat.new × (as_side side.new ≡ as_side side.old)) }
-{
-    // no object's number is above 65,535
-    let _ = side.made();
-    let word = order.load_cell(seat, k);
-    let mut drawing = seat_drawing!(order, seat, Role::Managed);
-    let reply = side.weak(&mut drawing, caller, index, k, v, word)?;
-    Ok((drawing.last, reply))
+impl<'a> Step for ManagedEvent<'a> {
+    type On = ManagedSide;
+
+    type Out = Result<(u64, Reply), AllocError>;
+
+    ghost asks = { λ t order seat s. IsManagedStep t.caller t.op.now × IsFresh s.state t.op.now
+        × CitesRightly t.op.now t.cites × TakesManaged s.threads t.caller
+        × MayAppend order seat 0 t.caller t.op.now None × (line_known seat.view 0 ≡ s.entries) };
+
+    ghost drew = { λ t order seat seat' s s' result.
+        DrewManaged t.caller t.index t.op.now t.cites nothing order seat seat' s s' result };
+
+    ghost makes = { λ t mine mine' result. MakesEvent t.caller t.index t.op.now t.cites mine mine' result };
+
+    #[inline(always)]
+    fn draw(
+        self,
+        side: &mut ManagedSide,
+        order: &Order,
+        seat: &mut Seat,
+    ) -> Result<(u64, Reply), AllocError> {
+        let mut drawing = seat_drawing!(order, seat, Role::Managed);
+        let reply = side.step(&mut drawing, self.caller, self.index, self.op, self.cites)?;
+        Ok((drawing.last, reply))
+    }
+}
+
+/// `weak K V` of a managed thread: where it sets the cell, the cell's word is stored by the seat. It answers its
+/// entry's number and the reply; `AllocError` where there is no memory, and no entry is made then.
+#[derive(Drop)]
+pub(crate) struct CellSetting {
+    pub(crate) caller: Thread,
+    pub(crate) index: u32,
+    pub(crate) k: Cell,
+    pub(crate) v: Var,
+}
+
+impl Step for CellSetting {
+    type On = ManagedSide;
+
+    type Out = Result<(u64, Reply), AllocError>;
+
+    ghost asks = { λ t order seat s. IsManagedThread t.caller × (t.k.0 < 64) × IsVar t.v
+        × TakesManaged s.threads t.caller × HasManagedSeat t.caller order seat (as_side s) };
+
+    ghost drew = { λ t order seat seat' s s' result.
+        DrewManaged t.caller t.index (weak_op t.k t.v) None nothing order seat seat' s s' result };
+
+    ghost makes = { λ t mine mine' result. MakesEvent t.caller t.index (weak_op t.k t.v) None mine mine' result };
+
+    fn draw(
+        self,
+        side: &mut ManagedSide,
+        order: &Order,
+        seat: &mut Seat,
+    ) -> Result<(u64, Reply), AllocError> {
+        // no object's number is above 65,535
+        let _ = side.made();
+        let word = order.load_cell(seat, self.k);
+        let mut drawing = seat_drawing!(order, seat, Role::Managed);
+        let reply = side.weak(&mut drawing, self.caller, self.index, self.k, self.v, word)?;
+        Ok((drawing.last, reply))
+    }
 }
 
 /// The number of a managed thread, which is that of its reader.
@@ -144,35 +157,43 @@ pub(crate) fn reader_of(t: Thread) -> u8
     }
 }
 
-// The same of a `take` of the object of the thread's pin, which is cleared then.
-fn draw_take(
-    side: &mut ManagedSide,
-    order: &Order,
-    seat: &mut Seat,
-    caller: Thread,
-    index: u32,
-    v: Var,
-) -> Result<(u64, Reply), AllocError>
-    requires thread { IsManagedThread caller }
-    requires var { IsVar v }
-    requires takes { TakesManaged side.old.threads caller }
-    requires order { seat.old.order ≡ order.now }
-    requires owner { Owns seat.old.view 0 × Owns seat.old.view (caller_line caller) }
-    requires settled { Settled seat.old.view }
-    requires knows { ManagedKnows seat.old.view (as_side side.old) }
-    ensures drew { IfOk result (λ r. TakesPin
-        order.now seat.old seat.new (as_side side.old) (as_side side.new) caller index v r) }
-    ensures settled { Settled seat.new.view }
-    ensures threads { side.new.threads ≡ side.old.threads }
-    ensures err { OnErr result (StaysSeated seat.old seat.new × (as_side side.new ≡ as_side side.old)) }
-{
-    let reader = reader_of(caller);
-    let pin = own_pin(order, seat, reader);
-    let mut drawing = seat_drawing!(order, seat, Role::Managed);
-    let reply = side.take(&mut drawing, caller, index, v, pin)?;
-    let number = drawing.last;
-    settle_taken(order, seat, reader);
-    Ok((number, reply))
+/// `take V` of a managed thread, of the object of its pin, which is cleared then. It answers its entry's number and the
+/// reply; `AllocError` where there is no memory, and no entry is made then.
+#[derive(Drop)]
+pub(crate) struct Taking {
+    pub(crate) caller: Thread,
+    pub(crate) index: u32,
+    pub(crate) v: Var,
+}
+
+impl Step for Taking {
+    type On = ManagedSide;
+
+    type Out = Result<(u64, Reply), AllocError>;
+
+    ghost asks = { λ t order seat s. IsManagedThread t.caller × IsVar t.v
+        × TakesManaged s.threads t.caller × HasManagedSeat t.caller order seat (as_side s) };
+
+    ghost drew = { λ t order seat seat' s s' result. (s'.threads ≡ s.threads)
+        × IfOk result (λ r. TakesPin order seat seat' (as_side s) (as_side s') t.caller t.index t.v r)
+        × OnErr result (StaysSeated seat seat' × (as_side s' ≡ as_side s)) };
+
+    ghost makes = { λ t mine mine' result. MakesEvent t.caller t.index (take_op t.v) None mine mine' result };
+
+    fn draw(
+        self,
+        side: &mut ManagedSide,
+        order: &Order,
+        seat: &mut Seat,
+    ) -> Result<(u64, Reply), AllocError> {
+        let reader = reader_of(self.caller);
+        let pin = own_pin(order, seat, reader);
+        let mut drawing = seat_drawing!(order, seat, Role::Managed);
+        let reply = side.take(&mut drawing, self.caller, self.index, self.v, pin)?;
+        let number = drawing.last;
+        settle_taken(order, seat, reader);
+        Ok((number, reply))
+    }
 }
 
 impl<N: OrderName> LockedManaged<N> {
@@ -234,109 +255,6 @@ impl<N: OrderName> LockedManaged<N> {
         ensures makes { T.makes step mine.old.view mine.new.view result }
     {
         make::<N, T>(&mut self.side, &mut self.seat, order, mine, caller, step)
-    }
-
-    /// Makes one event of a managed thread, and answers its entry's number and the reply. The caller's seat knows the
-    /// entry then.
-    #[inline(always)]
-    pub(crate) fn step(
-        &mut self,
-        order: &Order,
-        mine: &mut Seat,
-        caller: Thread,
-        index: u32,
-        op: &Op,
-        cites: Option<u64>,
-    ) -> Result<(u64, Reply), AllocError>
-        requires order { (order.now ≡ N.order) × (mine.old.order ≡ N.order) }
-        requires settled { Settled mine.old.view }
-        requires pass { IsThread caller × HoldsPass caller mine.old.view }
-        requires takes { TakesManaged N.managed caller }
-        requires event { IsManagedStep caller op.now }
-        requires may { MayMake caller mine.old.view index op.now cites }
-        ensures order { mine.new.order ≡ N.order }
-        ensures settled { Settled mine.new.view }
-        ensures pass { HoldsPass caller mine.new.view }
-        ensures ok { IfOk result (λ r. Makes caller mine.old.view mine.new.view
-            (numbered r.0 (made_by caller index op.now r.1 cites))) }
-        ensures reads { ReadsStay caller mine.old.view mine.new.view }
-        ensures err { OnErr result (MakesNone caller mine.old.view mine.new.view) }
-    {
-        lend(order, &mut self.seat, mine, caller);
-        let made = draw_step(
-            &mut self.side,
-            order,
-            &mut self.seat,
-            caller,
-            index,
-            op,
-            cites,
-        );
-        give_back(order, &mut self.seat, mine, caller);
-        made
-    }
-
-    /// Makes `take V` of a managed thread, whose pin is emptied, and answers its entry's number and the reply. The
-    /// caller's seat knows the entry then. Answers `AllocError` where there is no memory, and no entry is made then.
-    pub(crate) fn take(
-        &mut self,
-        order: &Order,
-        mine: &mut Seat,
-        caller: Thread,
-        index: u32,
-        v: Var,
-    ) -> Result<(u64, Reply), AllocError>
-        requires order { (order.now ≡ N.order) × (mine.old.order ≡ N.order) }
-        requires settled { Settled mine.old.view }
-        requires pass { IsManagedThread caller × HoldsPass caller mine.old.view }
-        requires takes { TakesManaged N.managed caller }
-        requires var { IsVar v }
-        requires may { MayMake caller mine.old.view index (take_op v) None }
-        ensures order { mine.new.order ≡ N.order }
-        ensures settled { Settled mine.new.view }
-        ensures pass { HoldsPass caller mine.new.view }
-        ensures ok { IfOk result (λ r. Makes caller mine.old.view mine.new.view
-            (numbered r.0 (made_by caller index (take_op v) r.1 None))) }
-        ensures reads { ReadsStay caller mine.old.view mine.new.view }
-        ensures err { OnErr result (MakesNone caller mine.old.view mine.new.view) }
-    {
-        lend(order, &mut self.seat, mine, caller);
-        let made = draw_take(&mut self.side, order, &mut self.seat, caller, index, v);
-        give_back(order, &mut self.seat, mine, caller);
-        made
-    }
-
-    /// Makes `weak K V` of a managed thread, and answers its entry's number and the reply. Where it sets the cell, the
-    /// cell's word is stored in the same hold of the lock. The caller's seat knows the entry then. Answers `AllocError`
-    /// where there is no memory, and no entry is made then.
-    pub(crate) fn weak(
-        &mut self,
-        order: &Order,
-        mine: &mut Seat,
-        caller: Thread,
-        index: u32,
-        k: Cell,
-        v: Var,
-    ) -> Result<(u64, Reply), AllocError>
-        requires order { (order.now ≡ N.order) × (mine.old.order ≡ N.order) }
-        requires settled { Settled mine.old.view }
-        requires pass { IsManagedThread caller × HoldsPass caller mine.old.view }
-        requires takes { TakesManaged N.managed caller }
-        requires cell { k.0 < 64 }
-        requires var { IsVar v }
-        requires may { MayMake caller mine.old.view index (weak_op k v) None }
-        ensures order { mine.new.order ≡ N.order }
-        ensures settled { Settled mine.new.view }
-        ensures pass { HoldsPass caller mine.new.view }
-        ensures ok { IfOk result (λ r. Makes caller mine.old.view mine.new.view
-            (numbered r.0 (made_by caller index (weak_op k v) r.1 None))) }
-        ensures reads { ReadsStay caller mine.old.view mine.new.view }
-        ensures err { OnErr result (MakesNone caller mine.old.view mine.new.view) }
-    {
-        lend(order, &mut self.seat, mine, caller);
-        let made = draw_weak(&mut self.side, order, &mut self.seat, caller, index, k, v);
-        give_back(order, &mut self.seat, mine, caller);
-        made
     }
 
     /// Reads a cell for a managed thread by the locked seat, which knows the whole managed list: so the answer is what

@@ -17,6 +17,8 @@ ghost use Rattle.joint_history.specs.Operations.{call_of, entry_by, first_of, se
 use crate::callers::{Caller, Receipt};
 use crate::collects::Collecting;
 use crate::keeping::{Keep, Keeps};
+use crate::managed::{CellSetting, ManagedEvent, Taking};
+use crate::peer::PeerEvent;
 use crate::shared::Shared;
 use joint_model::{Act, Cell, Entries, Op, Reply, Thread, Var};
 use order_table::{OrderName, Seat};
@@ -209,22 +211,39 @@ impl<N: OrderName, K: Keeps<N>> Shared<N, K> {
                 Ok(held.value().read(&self.order, mine, reads, t, index, &act))
             }
             ManagedCall::Weak { k, v } => {
+                let step = CellSetting {
+                    caller: t,
+                    index,
+                    k,
+                    v,
+                };
                 self.managed
                     .hold(rt)
                     .value()
-                    .weak(&self.order, mine, t, index, k, v)
+                    .make(&self.order, mine, t, step)
             }
             ManagedCall::Take { v } => {
+                let step = Taking {
+                    caller: t,
+                    index,
+                    v,
+                };
                 self.managed
                     .hold(rt)
                     .value()
-                    .take(&self.order, mine, t, index, v)
+                    .make(&self.order, mine, t, step)
             }
             ManagedCall::Step => {
+                let step = ManagedEvent {
+                    caller: t,
+                    index,
+                    op,
+                    cites,
+                };
                 self.managed
                     .hold(rt)
                     .value()
-                    .step(&self.order, mine, t, index, op, cites)
+                    .make(&self.order, mine, t, step)
             }
         }
     }
@@ -260,11 +279,13 @@ impl<N: OrderName, K: Keeps<N>> Shared<N, K> {
         ensures err { OnErr result (MakesNone t mine.old.view mine.new.view) }
     {
         if is_of_peers(t, op) {
-            return self
-                .peers
-                .hold(rt)
-                .value()
-                .step(&self.order, mine, t, index, op, cites);
+            let step = PeerEvent {
+                caller: t,
+                index,
+                op,
+                cites,
+            };
+            return self.peers.hold(rt).value().make(&self.order, mine, t, step);
         }
         self.managed_event(rt, mine, reads, t, index, op, cites)
     }

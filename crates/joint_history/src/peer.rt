@@ -1,6 +1,6 @@
 // The peer side under its lock.
 
-ghost use Rattle.std.specs.Prelude.{◌≡◌, ◌≤◌, ℕ, IfOk, IsOk, OnErr};
+ghost use Rattle.std.specs.Prelude.{◌≡◌, ◌≤◌, ℕ, IfOk, IsOk, None, OnErr};
 ghost use Rattle.joint_machine.specs.Draws.{numbered};
 ghost use Rattle.joint_machine.specs.Lines.{IsThread};
 ghost use Rattle.joint_machine.specs.PeerReplay.{PeerAllows};
@@ -10,11 +10,11 @@ ghost use Rattle.order_table.specs.Allowed.{Settled};
 ghost use Rattle.order_table.specs.Views.{Owns};
 ghost use Rattle.peer_heap.specs.Sides.{opening_side, seen};
 ghost use Rattle.peer_heap.specs.Steps.{IsPeerStep, IsRelease};
-ghost use Rattle.joint_history.specs.Callers.{HoldsPass, KnowsNothing, ReadsStay};
+ghost use Rattle.joint_history.specs.Callers.{HoldsPass, KnowsNothing};
 ghost use Rattle.joint_history.specs.Knowing.{line_known};
-ghost use Rattle.joint_history.specs.Locked.{Drew, Makes, MakesNone, MayMake, PeerKnows, StaysSeated, made_by};
+ghost use Rattle.joint_history.specs.Locked.{Drew, PeerKnows, StaysSeated, made_by};
 ghost use Rattle.joint_history.specs.PeerCalls.{AllowsCall, DrawsEvent, IsPeerCall};
-ghost use Rattle.joint_history.specs.Steps.{Fits, KnowsPeers};
+ghost use Rattle.joint_history.specs.Steps.{Fits, KnowsPeers, MakesEvent};
 ghost use Rattle.seat_calls.specs.Passing.{MayAppend};
 
 use crate::peer_marks::{draw_mark, draw_slice, is_mark, slice_count};
@@ -22,7 +22,7 @@ use crate::steps::{Step, make};
 use joint_model::{Holding, Op, Reply, Thread};
 use order_table::{Order, OrderName, Role, Seat};
 use peer_heap::PeerSide;
-use seat_calls::{give_back, lend, seat_drawing};
+use seat_calls::seat_drawing;
 use std::alloc::{AllocError, Global};
 use std::marker::{Model, PhantomData};
 
@@ -81,38 +81,57 @@ fn draw_step(
     Ok((drawing.last, reply))
 }
 
-// The side draws one event of a thread by the seat: a slice, a begin or a sweep of its own marking, or a step.
-#[inline(always)]
-fn draw_event(
-    side: &mut PeerSide,
-    order: &Order,
-    seat: &mut Seat,
-    caller: Thread,
-    index: u32,
-    op: &Op,
-    cites: Option<u64>,
-) -> Result<(u64, Reply), AllocError>
-    requires call { IsPeerCall caller op.now }
-    requires allowed { AllowsCall side.old.state caller op.now cites }
-    requires takes { TakesPeer side.old.threads caller }
-    requires may { MayAppend order.now seat.old 1 caller op.now None }
-    requires settled { Settled seat.old.view }
-    requires entries { line_known seat.old.view 1 ≡ side.old.entries }
-    ensures settled { Settled seat.new.view }
-    ensures drew { IfOk result (λ r. DrawsEvent order.now seat.old seat.new (seen side.old)
-        (seen side.new) (numbered r.0 (made_by caller index op.now r.1 cites))) }
-    ensures release { IsRelease op.now → IsOk result }
-    ensures err { OnErr result (StaysSeated seat.old seat.new × (seen side.new ≡ seen side.old)) }
-    ensures reserve { side.new.reserve ≡ side.old.reserve }
-    ensures threads { side.new.threads ≡ side.old.threads }
-{
-    if let Some(n) = slice_count(op) {
-        return draw_slice(side, order, seat, caller, index, n);
+/// One event of a thread that stands in the peer side's list: a slice, a begin or a sweep of its own marking, or a
+/// step. It answers its entry's number and the reply; `AllocError` where there is no memory, and no entry is made then;
+/// a release takes none.
+#[derive(Drop)]
+pub(crate) struct PeerEvent<'a> {
+    pub(crate) caller: Thread,
+    pub(crate) index: u32,
+    pub(crate) op: &'a Op,
+    pub(crate) cites: Option<u64>,
+}
+
+impl<'a> Step for PeerEvent<'a> {
+    type On = PeerSide;
+
+    type Out = Result<(u64, Reply), AllocError>;
+
+    ghost asks = { λ t order seat s. IsPeerCall t.caller t.op.now × AllowsCall s.state t.caller t.op.now t.cites
+        × TakesPeer s.threads t.caller × MayAppend order seat 1 t.caller t.op.now None
+        × (line_known seat.view 1 ≡ s.entries) };
+
+    ghost drew = { λ t order seat seat' s s' result. (s'.threads ≡ s.threads) × (s'.reserve ≡ s.reserve)
+        × IfOk result (λ r. DrawsEvent order seat seat' (seen s) (seen s')
+        (numbered r.0 (made_by t.caller t.index t.op.now r.1 t.cites)))
+        × OnErr result (StaysSeated seat seat' × (seen s' ≡ seen s)) × (IsRelease t.op.now → IsOk result) };
+
+    ghost makes = { λ t mine mine' result. MakesEvent t.caller t.index t.op.now t.cites mine mine' result
+        × (IsRelease t.op.now → IsOk result) };
+
+    #[inline(always)]
+    fn draw(
+        self,
+        side: &mut PeerSide,
+        order: &Order,
+        seat: &mut Seat,
+    ) -> Result<(u64, Reply), AllocError> {
+        if let Some(n) = slice_count(self.op) {
+            return draw_slice(side, order, seat, self.caller, self.index, n);
+        }
+        if is_mark(self.op) {
+            return draw_mark(side, order, seat, self.caller, self.index, self.op);
+        }
+        draw_step(
+            side,
+            order,
+            seat,
+            self.caller,
+            self.index,
+            self.op,
+            self.cites,
+        )
     }
-    if is_mark(op) {
-        return draw_mark(side, order, seat, caller, index, op);
-    }
-    draw_step(side, order, seat, caller, index, op, cites)
 }
 
 impl<N: OrderName> LockedPeer<N> {
@@ -173,46 +192,5 @@ impl<N: OrderName> LockedPeer<N> {
         ensures makes { T.makes step mine.old.view mine.new.view result }
     {
         make::<N, T>(&mut self.side, &mut self.seat, order, mine, caller, step)
-    }
-
-    /// Makes one event of a thread, and answers its entry's number and the reply. The caller's seat knows the entry
-    /// then. Answers `AllocError` where there is no memory, and no entry is made then; a release takes none.
-    #[inline(always)]
-    pub(crate) fn step(
-        &mut self,
-        order: &Order,
-        mine: &mut Seat,
-        caller: Thread,
-        index: u32,
-        op: &Op,
-        cites: Option<u64>,
-    ) -> Result<(u64, Reply), AllocError>
-        requires order { (order.now ≡ N.order) × (mine.old.order ≡ N.order) }
-        requires settled { Settled mine.old.view }
-        requires pass { IsThread caller × HoldsPass caller mine.old.view }
-        requires takes { TakesPeer N.peers caller }
-        requires event { IsPeerCall caller op.now }
-        requires may { MayMake caller mine.old.view index op.now cites }
-        ensures order { mine.new.order ≡ N.order }
-        ensures settled { Settled mine.new.view }
-        ensures pass { HoldsPass caller mine.new.view }
-        ensures ok { IfOk result (λ r. Makes caller mine.old.view mine.new.view
-            (numbered r.0 (made_by caller index op.now r.1 cites))) }
-        ensures reads { ReadsStay caller mine.old.view mine.new.view }
-        ensures release { IsRelease op.now → IsOk result }
-        ensures err { OnErr result (MakesNone caller mine.old.view mine.new.view) }
-    {
-        lend(order, &mut self.seat, mine, caller);
-        let made = draw_event(
-            &mut self.side,
-            order,
-            &mut self.seat,
-            caller,
-            index,
-            op,
-            cites,
-        );
-        give_back(order, &mut self.seat, mine, caller);
-        made
     }
 }

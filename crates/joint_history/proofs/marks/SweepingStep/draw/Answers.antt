@@ -1,4 +1,3 @@
-use Rattle.std.proofs.Common.{rules}
 use Rattle.joint_history.proofs.DriverMarks.{driver_ends}
 use Rattle.seat_calls.proofs.Floors.{below_floor, room_left}
 use Rattle.joint_history.proofs.marks.SweepingStep.draw.Goals as goal

@@ -18,7 +18,7 @@ drive_managed-requires-clause-fits g c =
       asked = λ order lent mine1 s w. (
         may_contract_with s.state mine index c.args.sccs c.args.xrefs may
             (under_lock w.locked mine lent.view mine1 (as_side s) index (snapped may.opened) may.seen w.pass w.owns w.known_side.0 may.stands w.lends),
-        λ k e. managed_may _ order mine lent mine1 s (contract_op k) refl refl refl refl w,
+        λ k e. managed_may _ C order mine lent mine1 s (contract_op k) refl refl refl w,
         managed_line _ C order mine lent mine1 s w,
       );
       further = λ order lent lent2 s s2 r d. (let q = (d.drew d.comps d.heavy d.pairs d.contracted) in goes_further order lent lent2 0 q.kept q.appends);

@@ -24,7 +24,7 @@ drive_managed-requires-clause-fits g c =
       asked = λ order lent mine1 s w. (
         c.requires.count.0,
         c.requires.count.1,
-        managed_may _ order mine lent mine1 s (op.Line (act.Finalise c.args.count)) refl refl refl refl w,
+        managed_may _ C order mine lent mine1 s (op.Line (act.Finalise c.args.count)) refl refl refl w,
         managed_line _ C order mine lent mine1 s w,
       );
       further = λ order lent lent2 s s2 r d. either_further

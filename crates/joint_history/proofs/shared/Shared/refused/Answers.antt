@@ -22,7 +22,7 @@ drive_managed-requires-clause-fits g c =
       side = omega arith;
       asked = λ order lent mine1 s w. (
         may_refuse s.state mine index c.args.word c.args.phase may (under_lock w.locked mine lent.view mine1 (as_side s) index may.stand may.seen w.pass w.owns w.known_side.0 may.stands w.lends),
-        managed_may _ order mine lent mine1 s (op.Refused c.args.word) refl refl refl refl w,
+        managed_may _ C order mine lent mine1 s (op.Refused c.args.word) refl refl refl w,
         managed_line _ C order mine lent mine1 s w,
       );
       further = λ order lent lent2 s s2 r d. either_further
