@@ -26,11 +26,12 @@ use Rattle.peer_heap.specs.contracts.rows.PeerRows as PeerRows
 use Rattle.peer_heap.specs.contracts.side.OpenMarking as OpenMarking
 use Rattle.peer_heap.specs.contracts.side.PeerSide as PeerSide
 use Rattle.joint_history.specs.contracts.keeping.Locks as Locks
-use Rattle.joint_history.specs.contracts.managed.LockedManaged as LockedManaged
-use Rattle.joint_history.specs.contracts.managed.LockedManaged.TheInside as UnderManaged
-use Rattle.joint_history.specs.contracts.peer.LockedPeer as LockedPeer
-use Rattle.joint_history.specs.contracts.peer.LockedPeer.TheInside as UnderPeer
 use Rattle.joint_history.specs.contracts.shared.Shared as Shared
+use Rattle.joint_history.specs.contracts.steps.Locked as Locked
+use Rattle.joint_history.specs.contracts.steps.Locked.TheInside as Inside
+use Rattle.joint_history.specs.contracts.steps.ManagedSideSided.TheImpl as managed
+use Rattle.joint_history.specs.contracts.steps.PeerSideSided.TheImpl as peers
+use Rattle.joint_history.specs.declared.steps.Sided as sided
 
 -- a caller's list of reads may be sent with it
 pub entries : IsSend Entries.the_row
@@ -65,32 +66,28 @@ peer_side = search (sendable, crosses, peer_rows, mirroring, open_marking, entri
 
 -- for each order
 module _ (N : RattleType) (g : Ghosts N.Denot) where
-  managed_fields : AllSend (fields.shape (UnderManaged.the_type N g)).fields
-  managed_fields = search (sendable, crosses, seat, managed_side) depth 40 fits 100000
+  -- a side under its lock
+  module _ (S : RattleType) (k : sided.Ghosts S.Denot) (side : IsSend S) where
+    inside_fields : AllSend (fields.shape (Inside.the_type N S g k)).fields
+    inside_fields = search (sendable, crosses, seat) depth 40 fits 100000
 
-  under_managed : IsSend (UnderManaged.the_row N g)
-  under_managed = recorded_send _ _ _ (UnderManaged.the_type N g).to_one (struct_send (fields.shape (UnderManaged.the_type N g)) managed_fields)
+    inside : IsSend (Inside.the_row N S g k)
+    inside = recorded_send _ _ _ (Inside.the_type N S g k).to_one (struct_send (fields.shape (Inside.the_type N S g k)) inside_fields)
 
-  locked_managed : IsSend (LockedManaged.the_row N g)
-  locked_managed = view_send _ _ _ _ _ under_managed
-
-  peer_fields : AllSend (fields.shape (UnderPeer.the_type N g)).fields
-  peer_fields = search (sendable, crosses, seat, peer_side) depth 40 fits 100000
-
-  under_peer : IsSend (UnderPeer.the_row N g)
-  under_peer = recorded_send _ _ _ (UnderPeer.the_type N g).to_one (struct_send (fields.shape (UnderPeer.the_type N g)) peer_fields)
-
-  locked_peer : IsSend (LockedPeer.the_row N g)
-  locked_peer = view_send _ _ _ _ _ under_peer
+    locked : IsSend (Locked.the_row N S g k)
+    locked = view_send _ _ _ _ _ inside
 
   abbrev pub managed_lock : RattleType
-  managed_lock = Mutex.the_row (LockedManaged.the_row N g)
+  managed_lock = Mutex.the_row (Locked.the_row N ManagedSide.the_row g managed.ghosts)
 
   abbrev pub peer_lock : RattleType
-  peer_lock = Mutex.the_row (LockedPeer.the_row N g)
+  peer_lock = Mutex.the_row (Locked.the_row N PeerSide.the_row g peers.ghosts)
 
   shared_fields : AllSync (fields.shape (Shared.the_type N Locks.the_row managed_lock peer_lock g)).fields
-  shared_fields = search (sendable, crosses, order, locked_managed, locked_peer) depth 40 fits 100000
+  shared_fields =
+      let m : IsSend (Locked.the_row N ManagedSide.the_row g managed.ghosts) = locked ManagedSide.the_row managed.ghosts managed_side in
+      let p : IsSend (Locked.the_row N PeerSide.the_row g peers.ghosts) = locked PeerSide.the_row peers.ghosts peer_side in
+      search (sendable, crosses, order) depth 40 fits 100000
 
   -- two locks and an order
   pub shared : IsSync (Shared.the_row N Locks.the_row managed_lock peer_lock g)

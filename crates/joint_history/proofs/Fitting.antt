@@ -7,19 +7,20 @@ use base.Growing.{prefix_refl, prefix_trans}
 use Rattle.joint_machine.specs.declared.names.Thread.{Thread}
 use Rattle.joint_machine.specs.declared.events.Op.{Op}
 use Rattle.joint_machine.specs.HistoryLines.{caller_line}
-use Rattle.joint_machine.specs.Lines.{is_peer_event, is_read}
+use Rattle.joint_machine.specs.Lines.{IsThread, is_peer_event, is_read}
 use Rattle.joint_machine.proofs.Deciding.{none_some}
 use Rattle.managed_heap.specs.Sides.{ManagedModel, as_side}
 use Rattle.order_table.specs.declared.views.KeptEntry.{KeptEntry}
 use Rattle.order_table.specs.declared.views.View.{View}
-use Rattle.order_table.specs.Allowed.{HoldsOpen, MayDo}
+use Rattle.order_table.specs.Allowed.{HoldsOpen, MayDo, Settled}
 use Rattle.order_table.specs.Facts.{line_entries}
 use Rattle.order_table.specs.Rows.{at}
 use Rattle.order_table.specs.Stages.{deed, neither}
 use Rattle.order_table.specs.Views.{OrderId, Owns, Shown, known}
 use Rattle.peer_heap.specs.Sides.{PeerModel}
-use Rattle.seat_calls.specs.Passing.{MayAppend}
+use Rattle.seat_calls.specs.Passing.{Lends, MayAppend}
 use Rattle.view_laws.specs.Knowing.{IsDrawnView}
+use Rattle.joint_history.specs.Callers.{HoldsPass}
 use Rattle.joint_history.specs.Knowing.{line_known}
 use Rattle.joint_history.specs.Locked.{HasAppended, StaysSeated}
 use Rattle.joint_history.specs.Steps.{GoesFurther, HasManagedSeat, IsLent, KnowsManaged, KnowsPeers}
@@ -27,6 +28,19 @@ use Rattle.joint_history.proofs.KnownCallers.{own_line}
 use Rattle.joint_history.proofs.Lent.{knows_lent}
 use Rattle.joint_history.proofs.LockedSteps.{grows_more, owns_on}
 use Rattle.joint_history.proofs.SeatDraws.{sets_none}
+
+pub is_lent : {S : Type 0} (line : ℕ) (knows : View → S → Type 0) (t : Thread) (order : OrderId) (locked mine : View) (lent : Shown) (mine1 : View) (side : S) → IsThread t × HoldsPass t mine
+    → Owns locked line → knows locked side → lent.order ≡ order → Settled lent.view → Lends t locked mine lent.view mine1 → IsLent line knows t order mine lent mine1 side
+is_lent line knows t order locked mine lent mine1 side pass owns known_side same settled lends = record {
+  thread = pass.0;
+  pass = pass.1;
+  locked = locked;
+  owns = owns;
+  known_side = known_side;
+  same = same;
+  settled = settled;
+  lends = lends;
+}
 
 pub goes_further : (order : OrderId) (seat seat' : Shown) (r : ℕ) (k : KeptEntry) → HasAppended order seat seat' r k → GoesFurther seat seat'
 goes_further order seat seat' r k a = record {

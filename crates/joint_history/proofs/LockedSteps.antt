@@ -16,8 +16,8 @@ use Rattle.joint_machine.specs.Draws.{numbered}
 use Rattle.joint_machine.specs.HistoryLines.{caller_line}
 use Rattle.joint_machine.specs.Lines.{IsThread, is_peer_event, is_read}
 use Rattle.joint_machine.specs.Linked.{Linkage, peer_after}
-use Rattle.joint_machine.specs.ManagedReplay.{ManagedReplay, opening_replay}
-use Rattle.joint_machine.specs.PeerReplay.{PeerReplay, peer_answer, opening_peer_replay}
+use Rattle.joint_machine.specs.ManagedReplay.{ManagedReplay}
+use Rattle.joint_machine.specs.PeerReplay.{PeerReplay, peer_answer}
 use Rattle.joint_machine.specs.Sides.{Side, SideRules, managed_rules, peer_rules, GoesOn}
 use Rattle.joint_machine.specs.Told.{Told, Noted}
 use Rattle.joint_machine.specs.PinsTold.{bare_told, pins_told}
@@ -40,12 +40,12 @@ use Rattle.order_table.proofs.Lines.{below_begins}
 use Rattle.seat_calls.specs.Passing.{Lends, Returns}
 use Rattle.view_laws.specs.Knowing.{DrawsMore, IsDrawnView, of_drawing, pins_of}
 use Rattle.view_laws.proofs.DrawnViews.{drawn_views_grow}
-use Rattle.joint_history.specs.Callers.{HoldsPass, KeepsReads, KnowsNothing, ReadsStay}
+use Rattle.joint_history.specs.Callers.{HoldsPass, KeepsReads, ReadsStay}
 use Rattle.joint_history.specs.Knowing.{line_known, note_of}
-use Rattle.joint_history.specs.Locked.{Drew, StaysSeated, made_by, ManagedKnows, PeerKnows, SideKnows, Stands, MayMake, IsTurn, Makes, MakesNone, doing_of, doing_from}
+use Rattle.joint_history.specs.Locked.{Drew, StaysSeated, made_by, SideKnows, Stands, MayMake, IsTurn, Makes, MakesNone, doing_of, doing_from}
 use Rattle.joint_history.specs.Steps.{MakesEvent}
 use Rattle.joint_history.proofs.KnownCallers.{own_line}
-use Rattle.joint_history.proofs.KnownViews.{JoinedViews, entries_snoc, lines_join, same_view, no_view}
+use Rattle.joint_history.proofs.KnownViews.{JoinedViews, entries_snoc, lines_join, same_view}
 use Rattle.joint_history.proofs.Standing.{last_of_own, doing_of_own}
 
 -- what is known together after the caller's lines were handed over
@@ -389,10 +389,3 @@ module _ {S : Type 0} {rules : SideRules S} {r : ℕ} {part : Linkage → S} {as
           err = makes_none t locked mine seat.view mine1 locked2 mine2 ks.known pass l back;
         };
       }
-
--- a side at its opening, with a seat that knows nothing
-pub opening_managed_knows : (v : View) (s : Side ManagedReplay) → KnowsNothing v → s.entries ≡ [] → s.state ≡ opening_replay → ManagedKnows v s
-opening_managed_knows v s k e o = record { known = no_view v k; entries = ap line_entries (k 0) ∙ sym e; state = sym o }
-
-pub opening_peer_knows : (v : View) (s : Side PeerReplay) → KnowsNothing v → s.entries ≡ [] → s.state ≡ opening_peer_replay → PeerKnows v s
-opening_peer_knows v s k e o = record { known = no_view v k; entries = ap line_entries (k 1) ∙ sym e; state = sym o }

@@ -22,6 +22,7 @@ use Rattle.joint_machine.specs.Draws.{numbered}
 use Rattle.joint_machine.specs.HistoryLines.{stands_in}
 use Rattle.joint_machine.specs.Lines.{is_peer_event}
 use Rattle.joint_machine.specs.Managed.{Managed}
+use Rattle.joint_machine.specs.ManagedReplay.{opening_replay}
 use Rattle.joint_machine.specs.Peers.{Issued, next_handle}
 use Rattle.joint_machine.specs.PeerReplay.{PeerReplay, Mirror, TableRow, restored_by, row_of, with_given, with_restored, with_weakened}
 use Rattle.joint_machine.specs.Sides.{peer_rules}
@@ -37,6 +38,7 @@ use Rattle.known_laws.proofs.Growing.{entries_append}
 use Rattle.known_laws.proofs.KnownPasts.{past_invariant_holds}
 use Rattle.known_laws.proofs.PeerKeeps.{IsNoMirror, IsUnmirroring, same_mirror_after, unmirroring}
 use Rattle.known_laws.proofs.SnapTold.{mirrored_candidates_stay}
+use Rattle.managed_heap.specs.Sides.{ManagedModel}
 use Rattle.peer_heap.specs.Cycles.{reserve_left, reserve_over}
 use Rattle.peer_heap.specs.Sides.{PeerModel, Reserve, is_own, opening_side, reserve_begun, seen}
 use Rattle.order_table.specs.declared.views.View.{View}
@@ -52,10 +54,11 @@ use Rattle.known_laws.specs.Drawn.{of_drawn}
 use Rattle.known_laws.proofs.Coming.{turn_of}
 use Rattle.joint_history.specs.Locked.{Drew, HasRoomToWeaken, PeerKnows, PeerReserves, StaysSeated, due_after, due_from, is_marking_due, made_by}
 use Rattle.joint_history.specs.PeerCalls.{DrawsEvent, IsPeerCall}
+use Rattle.joint_history.specs.Steps.{KnowsManaged, KnowsPeers}
 use Rattle.seat_calls.specs.Passing.{Lends, Returns}
 use Rattle.joint_history.proofs.DeadParts.{candidate_handle_on}
 use Rattle.joint_history.proofs.DriverSteps.{driver_joined}
-use Rattle.joint_history.proofs.KnownViews.{line_of_past}
+use Rattle.joint_history.proofs.KnownViews.{line_of_past, no_view}
 use Rattle.view_laws.proofs.DrawnViews.{drawn_begins}
 use Rattle.view_laws.proofs.KnownViews.{whole_kept, whole_numbered}
 use Rattle.joint_history.proofs.LockedSteps.{grows_more, lent_joined}
@@ -358,9 +361,21 @@ weakening_has_room locked mine lent mine1 side index o count h weakened swept m 
     omega (arith, few, enough)
 
 -- at first nothing is reserved
-pub first_reserves : (v : View) (threads : ℕ) (s : PeerModel) → KnowsNothing v → s ≡ opening_side threads → PeerReserves v s
+first_reserves : (v : View) (threads : ℕ) (s : PeerModel) → KnowsNothing v → s ≡ opening_side threads → PeerReserves v s
 first_reserves v threads s k e = record {
   none_waits = ap (λ (x : PeerModel). x.reserve.waiting) e;
   room = λ a f m g. absurd (none_some m (sym (ap (λ (r : PeerReplay). r.mirror) (f ∙ ap (λ (x : PeerModel). x.state) e)) ∙ g));
   marking = ap (λ (x : PeerModel). x.reserve.marking) e ∙ sym (ap (λ (x : PeerModel). is_marking_due x.entries) e);
 }
+
+-- each side at its opening, with a seat that knows nothing
+pub opens_managed : (n : ℕ) (v : View) (s : ManagedModel) → KnowsNothing v → s.threads ≡ n → s.entries ≡ [] → s.state ≡ opening_replay → KnowsManaged n v s
+opens_managed n v s k t e o = (record { known = no_view v k; entries = ap line_entries (k 0) ∙ sym e; state = sym o }, t)
+
+pub opens_peers : (n threads : ℕ) (v : View) (s : PeerModel) → KnowsNothing v → threads ≡ n → s ≡ opening_side threads → KnowsPeers n v s
+opens_peers n threads v s k t e = (
+  record { known = no_view v k; entries = ap line_entries (k 1) ∙ sym (ap (λ (x : PeerModel). x.entries) e); state = sym (ap (λ (x : PeerModel). x.state) e) },
+  first_reserves v threads s k e,
+  ap (λ (x : PeerModel). x.threads) e
+      ∙ t,
+)

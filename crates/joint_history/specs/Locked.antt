@@ -156,13 +156,9 @@ pub record Drew {S : Type 0} (r : SideRules S) (line : ℕ) (order : OrderId)
   pub added : side'.entries ≡ side.entries ++ e ∷ []
   pub goes : GoesOn r side.state e.made told side'.state
 
--- what is under a side's lock
-pub record UnderManaged : Type 0 where
-  pub side : Side ManagedReplay
-  pub view : View
-
-pub record UnderPeer : Type 0 where
-  pub side : PeerModel
+-- what is under a side's lock: the side, and what its seat knows
+pub record Under (S : Type 0) : Type 0 where
+  pub side : S
   pub view : View
 
 -- the side drew a `take` of the object of its thread's pin, which is live and in no open cycle's dead part

@@ -12,7 +12,7 @@ ghost use Rattle.joint_history.specs.DriverHandles.{MakesClear, MakesRestore, Ma
 ghost use Rattle.joint_history.specs.DriverHandles.{MayRestoreHandle, MayWeakenHandle};
 ghost use Rattle.joint_history.specs.DriverMarks.{HasBegunMarking, MakesMark, MakesSweep, MayMarkCycle};
 ghost use Rattle.joint_history.specs.DriverSnaps.{MakesSnapshot};
-ghost use Rattle.joint_history.specs.Steps.{Fits, KnowsManaged, KnowsPeers};
+ghost use Rattle.joint_history.specs.Steps.{Fits};
 ghost use Rattle.joint_machine.specs.declared.names.Thread.TheVariants.{C};
 ghost use Rattle.order_table.specs.declared.views.View.{View};
 ghost use Rattle.view_laws.specs.Knowing.{IsDrawnView};
@@ -24,51 +24,33 @@ use crate::keeping::{Keep, Keeps};
 use crate::marks::{Beginning, Begun, Blackening, Sweeping};
 use crate::shared::Shared;
 use crate::snaps::Snapping;
-use crate::steps::Step;
+use crate::steps::{Locked, Sided, Step};
 use global_handles::Back;
 use joint_model::{Alive, Cycle, HNum, Phase, PhaseWord, Reply, Thread};
-use managed_heap::{ManagedSide, Opened, ResolveOut, SnapFault};
+use managed_heap::{Opened, ResolveOut, SnapFault};
 use order_table::OrderName;
-use peer_heap::{PeerSide, Swept};
+use peer_heap::Swept;
 use std::alloc::AllocError;
 use std::sync::Wait;
 use std::thread::yield_now;
 
 impl<N: OrderName, K: Keeps<N>> Shared<N, K> {
-    // Makes a step of the managed side for the driver, in one hold of its lock.
-    fn drive_managed<T: Step<On = ManagedSide>>(
+    // Makes a step of a side for the driver, in one hold of the side's lock.
+    pub(crate) fn drive<S: Sided, T: Step<On = S>>(
         &self,
+        kept: &impl Keep<Locked<N, S>>,
         rt: &impl Wait,
         driver: &mut Caller<N>,
         step: T,
     ) -> T::Out
         requires driver { IsDriver driver.old.thread }
-        requires fits { Fits 0 (KnowsManaged N.managed) C driver.old.view (T.asks step) (T.drew step) (T.makes step) }
+        requires fits { Fits S.line (S.knows N.managed N.peers) C driver.old.view
+            (T.asks step) (T.drew step) (T.makes step) }
         requires knows { (w : View) (r : T.Out) → T.makes step driver.old.view w r → IsDrawnView w }
         ensures thread { driver.new.thread ≡ driver.old.thread }
         ensures makes { T.makes step driver.old.view driver.new.view result }
     {
-        self.managed
-            .hold(rt)
-            .value()
-            .make(&self.order, &mut driver.seat, Thread::C, step)
-    }
-
-    // The same on the peer side.
-    pub(crate) fn drive_peers<T: Step<On = PeerSide>>(
-        &self,
-        rt: &impl Wait,
-        driver: &mut Caller<N>,
-        step: T,
-    ) -> T::Out
-        requires driver { IsDriver driver.old.thread }
-        requires fits { Fits 1 (KnowsPeers N.peers) C driver.old.view (T.asks step) (T.drew step) (T.makes step) }
-        requires knows { (w : View) (r : T.Out) → T.makes step driver.old.view w r → IsDrawnView w }
-        ensures thread { driver.new.thread ≡ driver.old.thread }
-        ensures makes { T.makes step driver.old.view driver.new.view result }
-    {
-        self.peers
-            .hold(rt)
+        kept.hold(rt)
             .value()
             .make(&self.order, &mut driver.seat, Thread::C, step)
     }
@@ -89,7 +71,7 @@ impl<N: OrderName, K: Keeps<N>> Shared<N, K> {
         ensures makes { MakesContraction driver.old.view driver.new.view index sccs xrefs result }
     {
         let step = Contraction { index, sccs, xrefs };
-        self.drive_managed(rt, driver, step)
+        self.drive(&self.managed, rt, driver, step)
     }
 
     /// The driver abandons its open cycle, which isn't mirrored yet: nothing is freed. Answers the entry's number. It
@@ -100,7 +82,7 @@ impl<N: OrderName, K: Keeps<N>> Shared<N, K> {
         ensures thread { driver.new.thread ≡ driver.old.thread }
         ensures makes { MakesAbandon driver.old.view driver.new.view index result }
     {
-        self.drive_managed(rt, driver, Abandoning { index })
+        self.drive(&self.managed, rt, driver, Abandoning { index })
     }
 
     /// The driver resolves its open cycle by the answers of its restores, one for each candidate; the entry cites that
@@ -126,7 +108,7 @@ impl<N: OrderName, K: Keeps<N>> Shared<N, K> {
             clear,
             alive,
         };
-        self.drive_managed(rt, driver, step)
+        self.drive(&self.managed, rt, driver, step)
     }
 
     /// The driver's phase word is refused in its phase; nothing else changes. Answers the entry's number and the reply.
@@ -147,7 +129,7 @@ impl<N: OrderName, K: Keeps<N>> Shared<N, K> {
         ensures err { OnErr result (DriverMakesNone driver.old.view driver.new.view) }
     {
         let step = Refusal { index, word, phase };
-        self.drive_managed(rt, driver, step)
+        self.drive(&self.managed, rt, driver, step)
     }
 
     /// The driver takes so many waiting notices, or all where there are fewer. Answers the entry's number and the
@@ -167,7 +149,7 @@ impl<N: OrderName, K: Keeps<N>> Shared<N, K> {
         ensures ok { IfOk result (λ r. MakesFinalise driver.old.view driver.new.view index r.0 count r.1) }
         ensures err { OnErr result (DriverMakesNone driver.old.view driver.new.view) }
     {
-        self.drive_managed(rt, driver, Finalising { index, count })
+        self.drive(&self.managed, rt, driver, Finalising { index, count })
     }
 
     // The driver tries once to take a snapshot. Answers `NotClosed` where readers are inside the gate: no entry is made
@@ -185,7 +167,7 @@ impl<N: OrderName, K: Keeps<N>> Shared<N, K> {
         ensures fault { IfErr result (λ e. (e ≡ SnapFault.OutOfMemory) ⊎ (e ≡ SnapFault.NotClosed)) }
         ensures err { OnErr result (DriverMakesNone driver.old.view driver.new.view) }
     {
-        self.drive_managed(rt, driver, Snapping { index })
+        self.drive(&self.managed, rt, driver, Snapping { index })
     }
 
     /// The driver takes a snapshot and opens the next cycle, as soon as no reader is inside the gate: where some are,
@@ -229,7 +211,7 @@ impl<N: OrderName, K: Keeps<N>> Shared<N, K> {
         ensures thread { driver.new.thread ≡ driver.old.thread }
         ensures makes { MakesWeaken driver.old.view driver.new.view index snap h result }
     {
-        self.drive_peers(rt, driver, Weakening { index, snap, h })
+        self.drive(&self.peers, rt, driver, Weakening { index, snap, h })
     }
 
     /// The driver, which has weakened all handles of its cycle, begins the cycle's own marking; one that a peer thread
@@ -241,7 +223,7 @@ impl<N: OrderName, K: Keeps<N>> Shared<N, K> {
         ensures thread { driver.new.thread ≡ driver.old.thread }
         ensures makes { MakesMark driver.old.view driver.new.view index result }
     {
-        self.drive_peers(rt, driver, Beginning { index })
+        self.drive(&self.peers, rt, driver, Beginning { index })
     }
 
     // A slice of the driver's own marking, in one hold of the peer lock. Answers whether nothing is left to blacken.
@@ -251,7 +233,7 @@ impl<N: OrderName, K: Keeps<N>> Shared<N, K> {
         ensures thread { driver.new.thread ≡ driver.old.thread }
         ensures none { DriverMakesNone driver.old.view driver.new.view }
     {
-        self.drive_peers(rt, driver, Blackening)
+        self.drive(&self.peers, rt, driver, Blackening)
     }
 
     // The driver's own marking goes on to its end, with the lock given back after each slice.
@@ -277,7 +259,7 @@ impl<N: OrderName, K: Keeps<N>> Shared<N, K> {
         ensures thread { driver.new.thread ≡ driver.old.thread }
         ensures makes { MakesSweep driver.old.view driver.new.view index result.0 result.1 }
     {
-        self.drive_peers(rt, driver, Sweeping { index })
+        self.drive(&self.peers, rt, driver, Sweeping { index })
     }
 
     /// The driver ends its cycle's own marking: the peers that it doesn't reach are freed. Most of it is marked in
@@ -307,7 +289,7 @@ impl<N: OrderName, K: Keeps<N>> Shared<N, K> {
         ensures thread { driver.new.thread ≡ driver.old.thread }
         ensures makes { MakesRestore driver.old.view driver.new.view index h result.1 result.0 }
     {
-        self.drive_peers(rt, driver, Restoring { index, h })
+        self.drive(&self.peers, rt, driver, Restoring { index, h })
     }
 
     /// The driver clears the references of its cycle, all of whose handles are restored: no reference is mirrored any
@@ -318,6 +300,6 @@ impl<N: OrderName, K: Keeps<N>> Shared<N, K> {
         ensures thread { driver.new.thread ≡ driver.old.thread }
         ensures makes { MakesClear driver.old.view driver.new.view index cycle result }
     {
-        self.drive_peers(rt, driver, Clearing { index, cycle })
+        self.drive(&self.peers, rt, driver, Clearing { index, cycle })
     }
 }

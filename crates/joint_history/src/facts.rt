@@ -2,6 +2,7 @@
 // what the types keep, as a reader of the two sides may look for it.
 
 ghost use Rattle.std.specs.Prelude.{◌≡◌};
+ghost use Rattle.managed_heap.specs.Sides.{as_side};
 ghost use Rattle.peer_heap.specs.Sides.{seen};
 ghost use Rattle.joint_history.specs.Callers.{CallerKnows, IsOfRun, reads_of};
 ghost use Rattle.joint_history.specs.Locked.{ManagedKnows, PeerKnows, PeerReserves};
@@ -10,17 +11,18 @@ ghost use Rattle.joint_history.specs.SeatFacts.{NoneLeadsToFreedIn, PeerListCite
 ghost use Rattle.joint_history.specs.SeatFacts.{WeakIsWaitingIn};
 
 use crate::callers::Caller;
-use crate::managed::LockedManaged;
-use crate::peer::LockedPeer;
+use crate::steps::Locked;
+use managed_heap::ManagedSide;
 use order_table::OrderName;
+use peer_heap::PeerSide;
 
-impl<N: OrderName> LockedManaged<N> {
+impl<N: OrderName> Locked<N, ManagedSide> {
     /// The managed side is for the run's managed threads. Its seat knows a lawful past, of which the side's list is the
     /// managed line and whose end has the side's state. Each adopt, meet and resolve of the list cites a peer entry
     /// that the seat knows, and each resolve freed of its candidates exactly those whose restore answered cleared, and
     /// gave each other one the handle that its restore gave.
     pub fn recall_facts(&self)
-        ensures knows { ManagedKnows self.now.view self.now.side }
+        ensures knows { ManagedKnows self.now.view (as_side self.now.side) }
         ensures threads { self.now.side.threads ≡ N.managed }
         ensures cites { ManagedListCites self.now.view self.now.side.entries }
         ensures resolved { ResolvesFreed self.now.view }
@@ -30,7 +32,7 @@ impl<N: OrderName> LockedManaged<N> {
     }
 }
 
-impl<N: OrderName> LockedPeer<N> {
+impl<N: OrderName> Locked<N, PeerSide> {
     /// The peer side is for the run's peer threads. Its seat knows a lawful past, of which the side's list is the peer
     /// line and whose end has the side's state. No reference waits, and a mirrored cycle has room for its handles and
     /// its marking. Each land and release of the list cites a managed entry that the seat knows, each mirror and weaken

@@ -1,8 +1,9 @@
 // How a side is kept, so that one caller at a time has it in hand.
 
-use crate::managed::LockedManaged;
-use crate::peer::LockedPeer;
+use crate::steps::Locked;
+use managed_heap::ManagedSide;
 use order_table::OrderName;
+use peer_heap::PeerSide;
 use std::cell::{RefCell, RefMut};
 use std::sync::{Mutex, MutexGuard, Wait};
 
@@ -81,25 +82,25 @@ impl<T: Drop> Keep<T> for RefCell<T> {
 
 /// How both sides of a run are kept.
 pub trait Keeps<N: OrderName> {
-    type Managed: Keep<LockedManaged<N>>;
+    type Managed: Keep<Locked<N, ManagedSide>>;
 
-    type Peers: Keep<LockedPeer<N>>;
+    type Peers: Keep<Locked<N, PeerSide>>;
 }
 
 /// Behind locks, for threads that share the sides.
 pub struct Locks;
 
 impl<N: OrderName> Keeps<N> for Locks {
-    type Managed = Mutex<LockedManaged<N>>;
+    type Managed = Mutex<Locked<N, ManagedSide>>;
 
-    type Peers = Mutex<LockedPeer<N>>;
+    type Peers = Mutex<Locked<N, PeerSide>>;
 }
 
 /// In cells, for one thread that has the sides alone: it pays for no lock.
 pub struct Alone;
 
 impl<N: OrderName> Keeps<N> for Alone {
-    type Managed = RefCell<LockedManaged<N>>;
+    type Managed = RefCell<Locked<N, ManagedSide>>;
 
-    type Peers = RefCell<LockedPeer<N>>;
+    type Peers = RefCell<Locked<N, PeerSide>>;
 }

@@ -65,7 +65,6 @@ pub use callers::{Caller, Receipt};
 pub use desks::{Desk, thread_at};
 pub use ends::{RunEnd, Totals};
 pub use keeping::{Alone, Keeps, Locks};
-pub use managed::LockedManaged;
 pub use marks::Begun;
-pub use peer::LockedPeer;
 pub use shared::Shared;
+pub use steps::{Locked, Sided};

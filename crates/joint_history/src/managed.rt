@@ -1,57 +1,30 @@
-// The managed side under its lock.
+// Events of the managed side under its lock.
 
-ghost use Rattle.std.specs.Prelude.{◌≡◌, ◌<◌, ◌≤◌, ◌+◌, ℕ, [], IfOk, None, OnErr};
+ghost use Rattle.std.specs.Prelude.{◌≡◌, ◌<◌, ◌≤◌, ◌+◌, IfOk, None, OnErr};
 ghost use Rattle.joint_machine.specs.declared.events.Op.TheVariants as op;
 ghost use Rattle.joint_machine.specs.Draws.{numbered};
-ghost use Rattle.joint_machine.specs.Lines.{IsManagedThread, IsThread, IsVar};
-ghost use Rattle.joint_machine.specs.ManagedReplay.{opening_replay};
+ghost use Rattle.joint_machine.specs.Lines.{IsManagedThread, IsVar};
 ghost use Rattle.joint_machine.specs.Run.{thread_number};
 ghost use Rattle.joint_machine.specs.Sides.{TakesManaged};
 ghost use Rattle.joint_machine.specs.Told.{nothing};
 ghost use Rattle.order_table.specs.Allowed.{Settled};
-ghost use Rattle.order_table.specs.Views.{Owns};
 ghost use Rattle.weak_wait.specs.Reads.{IsRead};
 ghost use Rattle.managed_heap.specs.Sides.{as_side};
 ghost use Rattle.managed_heap.specs.Steps.{CitesRightly, IsFresh, IsManagedStep, take_op, weak_op};
 ghost use Rattle.seat_calls.specs.Passing.{MayAppend};
-ghost use Rattle.joint_history.specs.Callers.{HoldsPass, KeepsReads, KnowsNothing};
+ghost use Rattle.joint_history.specs.Callers.{HoldsPass, KeepsReads};
 ghost use Rattle.joint_history.specs.Knowing.{line_known};
-ghost use Rattle.joint_history.specs.Locked.{Makes, ManagedKnows, MayMake, StaysSeated, TakesPin, made_by};
+ghost use Rattle.joint_history.specs.Locked.{Makes, MayMake, StaysSeated, TakesPin, made_by};
 ghost use Rattle.joint_history.specs.Operations.{ReadsExactly};
-ghost use Rattle.joint_history.specs.Steps.{DrewManaged, Fits, HasManagedSeat, KnowsManaged, MakesEvent};
+ghost use Rattle.joint_history.specs.Steps.{DrewManaged, HasManagedSeat, MakesEvent};
 
-use crate::steps::{Step, make};
-use joint_model::{Act, Cell, Entries, Holding, MNum, Op, Reply, Thread, Var};
+use crate::steps::{Locked, Step};
+use joint_model::{Act, Cell, Entries, MNum, Op, Reply, Thread, Var};
 use managed_heap::ManagedSide;
 use order_table::{Order, OrderName, Role, Seat};
 use seat_calls::{Lives, own_pin, read_locked, seat_drawing, settle_taken};
-use std::alloc::{AllocError, Global};
-use std::marker::{Model, PhantomData};
+use std::alloc::AllocError;
 use weak_wait::reply_of;
-
-/// The managed side with the seat that owns its role. The side is for as many threads as the run has. The seat knows a
-/// past, whose managed entries are the side's list and at whose end the managed side is as this one.
-#[derive(Drop)]
-pub struct LockedManaged<N: OrderName> {
-    pub(crate) side: ManagedSide,
-    pub(crate) seat: Seat,
-    of: PhantomData<N>,
-}
-
-impl<N: OrderName> Model for LockedManaged<N> {
-    ghost use Rattle.std.specs.Prelude.{◌≡◌};
-    ghost use Rattle.order_table.specs.Allowed.{Settled};
-    ghost use Rattle.order_table.specs.Views.{Owns};
-    ghost use Rattle.managed_heap.specs.Sides.{as_side};
-    ghost use Rattle.joint_history.specs.Locked.{ManagedKnows, UnderManaged};
-
-    ghost Value = { UnderManaged };
-
-    ghost view = { λ l. record { side = as_side l.side; view = l.seat.view } };
-
-    ghost invariant = { λ l. (l.seat.order ≡ N.order) × Owns l.seat.view 0
-        × ManagedKnows l.seat.view (as_side l.side) × (l.side.threads ≡ N.managed) × Settled l.seat.view };
-}
 
 /// Which managed objects are live.
 #[derive(Drop)]
@@ -196,67 +169,7 @@ impl Step for Taking {
     }
 }
 
-impl<N: OrderName> LockedManaged<N> {
-    /// The side without objects and entries, for the run's managed threads, with a seat that owns its role and knows no
-    /// entry.
-    pub(crate) fn new(
-        alloc: Global,
-        threads: u8,
-        seat: Seat,
-        holding: Holding,
-    ) -> Result<LockedManaged<N>, AllocError>
-        requires threads { (threads ≤ 8) × (threads ≡ N.managed) }
-        requires seat { (seat.order ≡ N.order) × Owns seat.view 0 × Settled seat.view × KnowsNothing seat.view }
-        ensures side { IfOk result (λ l. (l.side.entries ≡ []) × (l.side.state ≡ opening_replay)) }
-        ensures seat { IfOk result (λ l. l.view ≡ seat.view) }
-    {
-        match ManagedSide::new(alloc, threads, holding) {
-            Ok(side) => Ok(LockedManaged {
-                side,
-                seat,
-                of: PhantomData,
-            }),
-            Err(error) => {
-                drop(seat);
-                Err(error)
-            }
-        }
-    }
-
-    /// The side and its seat.
-    pub(crate) fn into_parts(self) -> (ManagedSide, Seat)
-        ensures side { as_side result.0 ≡ self.side }
-        ensures seat { (result.1.order ≡ N.order) × (result.1.view ≡ self.view)
-            × Owns result.1.view 0 × Settled result.1.view }
-        ensures knows { ManagedKnows result.1.view (as_side result.0) }
-    {
-        let LockedManaged { side, seat, of: _ } = self;
-        (side, seat)
-    }
-
-    /// Makes a step of the side for a caller, whose seat knows then what the side's does. Answers what the step
-    /// answers.
-    #[inline(always)]
-    pub(crate) fn make<T: Step<On = ManagedSide>>(
-        &mut self,
-        order: &Order,
-        mine: &mut Seat,
-        caller: Thread,
-        step: T,
-    ) -> T::Out
-        requires order { (order.now ≡ N.order) × (mine.old.order ≡ N.order) }
-        requires settled { Settled mine.old.view }
-        requires pass { IsThread caller × HoldsPass caller mine.old.view }
-        requires fits { Fits 0 (KnowsManaged N.managed) caller mine.old.view
-            (T.asks step) (T.drew step) (T.makes step) }
-        ensures order { mine.new.order ≡ N.order }
-        ensures settled { Settled mine.new.view }
-        ensures pass { HoldsPass caller mine.new.view }
-        ensures makes { T.makes step mine.old.view mine.new.view result }
-    {
-        make::<N, T>(&mut self.side, &mut self.seat, order, mine, caller, step)
-    }
-
+impl<N: OrderName> Locked<N, ManagedSide> {
     /// Reads a cell for a managed thread by the locked seat, which knows the whole managed list: so the answer is what
     /// that list gives. The entry stands in the thread's own list, which has room for it. Answers the entry's number
     /// and the reply. It takes no memory.

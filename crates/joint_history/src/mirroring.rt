@@ -47,6 +47,6 @@ impl<N: OrderName, K: Keeps<N>> Shared<N, K> {
             graph,
             comps,
         };
-        self.drive_peers(rt, driver, step)
+        self.drive(&self.peers, rt, driver, step)
     }
 }

@@ -1,55 +1,26 @@
-// The peer side under its lock.
+// Events of threads on the peer side under its lock.
 
-ghost use Rattle.std.specs.Prelude.{◌≡◌, ◌≤◌, ℕ, IfOk, IsOk, None, OnErr};
+ghost use Rattle.std.specs.Prelude.{◌≡◌, IfOk, IsOk, None, OnErr};
 ghost use Rattle.joint_machine.specs.Draws.{numbered};
-ghost use Rattle.joint_machine.specs.Lines.{IsThread};
 ghost use Rattle.joint_machine.specs.PeerReplay.{PeerAllows};
 ghost use Rattle.joint_machine.specs.Sides.{TakesPeer, peer_rules};
 ghost use Rattle.joint_machine.specs.Told.{nothing};
 ghost use Rattle.order_table.specs.Allowed.{Settled};
-ghost use Rattle.order_table.specs.Views.{Owns};
-ghost use Rattle.peer_heap.specs.Sides.{opening_side, seen};
+ghost use Rattle.peer_heap.specs.Sides.{seen};
 ghost use Rattle.peer_heap.specs.Steps.{IsPeerStep, IsRelease};
-ghost use Rattle.joint_history.specs.Callers.{HoldsPass, KnowsNothing};
 ghost use Rattle.joint_history.specs.Knowing.{line_known};
-ghost use Rattle.joint_history.specs.Locked.{Drew, PeerKnows, StaysSeated, made_by};
+ghost use Rattle.joint_history.specs.Locked.{Drew, StaysSeated, made_by};
 ghost use Rattle.joint_history.specs.PeerCalls.{AllowsCall, DrawsEvent, IsPeerCall};
-ghost use Rattle.joint_history.specs.Steps.{Fits, KnowsPeers, MakesEvent};
+ghost use Rattle.joint_history.specs.Steps.{MakesEvent};
 ghost use Rattle.seat_calls.specs.Passing.{MayAppend};
 
 use crate::peer_marks::{draw_mark, draw_slice, is_mark, slice_count};
-use crate::steps::{Step, make};
-use joint_model::{Holding, Op, Reply, Thread};
-use order_table::{Order, OrderName, Role, Seat};
+use crate::steps::Step;
+use joint_model::{Op, Reply, Thread};
+use order_table::{Order, Role, Seat};
 use peer_heap::PeerSide;
 use seat_calls::seat_drawing;
-use std::alloc::{AllocError, Global};
-use std::marker::{Model, PhantomData};
-
-/// The peer side with the seat that owns its role. The side is for as many threads as the run has. The seat knows a
-/// past, whose peer entries are the side's list and at whose end the peer side is as this one. While the lock is free
-/// no reference waits, and what the mirrored cycle will weaken and mark is reserved.
-#[derive(Drop)]
-pub struct LockedPeer<N: OrderName> {
-    pub(crate) side: PeerSide,
-    pub(crate) seat: Seat,
-    of: PhantomData<N>,
-}
-
-impl<N: OrderName> Model for LockedPeer<N> {
-    ghost use Rattle.std.specs.Prelude.{◌≡◌};
-    ghost use Rattle.order_table.specs.Allowed.{Settled};
-    ghost use Rattle.order_table.specs.Views.{Owns};
-    ghost use Rattle.joint_history.specs.Locked.{PeerKnows, PeerReserves, UnderPeer};
-    ghost use Rattle.peer_heap.specs.Sides.{seen};
-
-    ghost Value = { UnderPeer };
-
-    ghost view = { λ l. record { side = l.side; view = l.seat.view } };
-
-    ghost invariant = { λ l. (l.seat.order ≡ N.order) × Owns l.seat.view 1 × PeerKnows l.seat.view (seen l.side)
-        × PeerReserves l.seat.view l.side × (l.side.threads ≡ N.peers) × Settled l.seat.view };
-}
+use std::alloc::AllocError;
 
 // The side draws by the seat: what is said here is what that leaves in both, and nothing else.
 #[inline(always)]
@@ -131,66 +102,5 @@ impl<'a> Step for PeerEvent<'a> {
             self.op,
             self.cites,
         )
-    }
-}
-
-impl<N: OrderName> LockedPeer<N> {
-    /// The side on which nothing was made, for the run's peer threads, with a seat that owns its role and knows no
-    /// entry.
-    pub(crate) fn new(
-        alloc: Global,
-        threads: u8,
-        seat: Seat,
-        holding: Holding,
-    ) -> Result<LockedPeer<N>, AllocError>
-        requires threads { (threads ≤ 8) × (threads ≡ N.peers) }
-        requires seat { (seat.order ≡ N.order) × Owns seat.view 1 × Settled seat.view × KnowsNothing seat.view }
-        ensures side { IfOk result (λ l. l.side ≡ opening_side threads) }
-        ensures seat { IfOk result (λ l. l.view ≡ seat.view) }
-    {
-        match PeerSide::new(alloc, threads, holding) {
-            Ok(side) => Ok(LockedPeer {
-                side,
-                seat,
-                of: PhantomData,
-            }),
-            Err(error) => {
-                drop(seat);
-                Err(error)
-            }
-        }
-    }
-
-    /// The side and its seat.
-    pub(crate) fn into_parts(self) -> (PeerSide, Seat)
-        ensures side { result.0 ≡ self.side }
-        ensures seat { (result.1.order ≡ N.order) × (result.1.view ≡ self.view)
-            × Owns result.1.view 1 × Settled result.1.view }
-        ensures knows { PeerKnows result.1.view (seen result.0) }
-    {
-        let LockedPeer { side, seat, of: _ } = self;
-        (side, seat)
-    }
-
-    /// Makes a step of the side for a caller, whose seat knows then what the side's does. Answers what the step
-    /// answers.
-    #[inline(always)]
-    pub(crate) fn make<T: Step<On = PeerSide>>(
-        &mut self,
-        order: &Order,
-        mine: &mut Seat,
-        caller: Thread,
-        step: T,
-    ) -> T::Out
-        requires order { (order.now ≡ N.order) × (mine.old.order ≡ N.order) }
-        requires settled { Settled mine.old.view }
-        requires pass { IsThread caller × HoldsPass caller mine.old.view }
-        requires fits { Fits 1 (KnowsPeers N.peers) caller mine.old.view (T.asks step) (T.drew step) (T.makes step) }
-        ensures order { mine.new.order ≡ N.order }
-        ensures settled { Settled mine.new.view }
-        ensures pass { HoldsPass caller mine.new.view }
-        ensures makes { T.makes step mine.old.view mine.new.view result }
-    {
-        make::<N, T>(&mut self.side, &mut self.seat, order, mine, caller, step)
     }
 }

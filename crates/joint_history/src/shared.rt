@@ -21,8 +21,7 @@ use crate::desks::Desk;
 use crate::ends::{RunEnd, Totals};
 use crate::gathers::gather_all;
 use crate::keeping::{Keep, Keeps};
-use crate::managed::LockedManaged;
-use crate::peer::LockedPeer;
+use crate::steps::Locked;
 use joint_model::{Entries, History, Holding, JoinFault, PastHistory, Thread};
 use managed_heap::{ManagedLists, ManagedSide};
 use order_table::{Order, OrderName, Role, Seat};
@@ -146,24 +145,27 @@ impl<N: OrderName, K: Keeps<N>> Shared<N, K> {
         requires counts { (managed ≤ 8) × (peers ≤ 8) }
         requires run { (managed ≡ N.managed) × (peers ≡ N.peers) }
     {
-        let mut seat = seat;
-        let peer_seat = order.share(&mut seat, Role::Peer);
-        let left = match LockedManaged::new(alloc, managed, seat, holding) {
+        let left = match ManagedSide::new(alloc, managed, holding) {
             Ok(left) => left,
             Err(fault) => {
-                drop(peer_seat);
+                drop(seat);
                 drop(order);
                 return Err(fault);
             }
         };
-        let right = match LockedPeer::new(alloc, peers, peer_seat, holding) {
+        let right = match PeerSide::new(alloc, peers, holding) {
             Ok(right) => right,
             Err(fault) => {
                 drop(left);
+                drop(seat);
                 drop(order);
                 return Err(fault);
             }
         };
+        let mut seat = seat;
+        let peer_seat = order.share(&mut seat, Role::Peer);
+        let left = Locked::new(left, seat);
+        let right = Locked::new(right, peer_seat);
         Ok(Shared {
             alloc,
             order,

@@ -1,5 +1,5 @@
-// One step of a side under its lock, made by the side's seat between the lending of a caller's lines and their giving
-// back.
+// A side under its lock, and one step of it, which is made by the side's seat between the lending of a caller's lines
+// and their giving back.
 
 ghost use Rattle.std.specs.Prelude.{◌≡◌, ℕ};
 ghost use Rattle.joint_machine.specs.Lines.{IsThread};
@@ -14,10 +14,11 @@ use managed_heap::ManagedSide;
 use order_table::{Order, OrderName, Seat};
 use peer_heap::PeerSide;
 use seat_calls::{give_back, lend};
+use std::marker::{Model, PhantomData};
 
 /// A side of the bridge: the line of its list in the order, and what the seat that owns that line knows of it, in a run
 /// with so many managed and so many peer threads.
-pub(crate) trait Sided {
+pub trait Sided: Drop {
     ghost line: { ℕ };
 
     ghost knows: { ℕ → ℕ → View → Self → Type 0 };
@@ -38,7 +39,7 @@ impl Sided for PeerSide {
 /// What a side does by its seat in one hold of its lock: what it asks of both, what it leaves in both, and what that
 /// makes for the caller whose lines the seat is lent.
 pub(crate) trait Step {
-    type On: Sided;
+    type On;
 
     type Out;
 
@@ -55,33 +56,75 @@ pub(crate) trait Step {
         ensures drew { drew self order.now seat.old seat.new side.old side.new result };
 }
 
-/// Makes a step of a side by its locked seat, to which the caller's lines are lent meanwhile. `mine` is the caller's
-/// seat, which knows then what the locked one does. Answers what the step answers.
-#[inline(always)]
-pub(crate) fn make<N: OrderName, T: Step>(
-    side: &mut T::On,
-    locked: &mut Seat,
-    order: &Order,
-    mine: &mut Seat,
-    caller: Thread,
-    step: T,
-) -> T::Out
-    requires order { (order.now ≡ N.order) × (locked.old.order ≡ N.order) × (mine.old.order ≡ N.order) }
-    requires settled { Settled locked.old.view × Settled mine.old.view }
-    requires pass { IsThread caller × HoldsPass caller mine.old.view }
-    requires owner { Owns locked.old.view T.On.line }
-    requires knows { T.On.knows N.managed N.peers locked.old.view side.old }
-    requires fits { Fits T.On.line (T.On.knows N.managed N.peers) caller mine.old.view
-        (T.asks step) (T.drew step) (T.makes step) }
-    ensures order { (locked.new.order ≡ N.order) × (mine.new.order ≡ N.order) }
-    ensures settled { Settled locked.new.view × Settled mine.new.view }
-    ensures pass { HoldsPass caller mine.new.view }
-    ensures owner { Owns locked.new.view T.On.line }
-    ensures knows { T.On.knows N.managed N.peers locked.new.view side.new }
-    ensures makes { T.makes step mine.old.view mine.new.view result }
-{
-    lend(order, locked, mine, caller);
-    let out = step.draw(side, order, locked);
-    give_back(order, locked, mine, caller);
-    out
+/// A side under its lock, with the seat that owns its line. The seat knows a past, whose entries of that line are the
+/// side's list and at whose end the side is as this one; and the side is for as many threads as the run has. On the
+/// peer side no reference waits, and what a mirrored cycle will weaken and mark is reserved.
+#[derive(Drop)]
+pub struct Locked<N: OrderName, S: Sided> {
+    pub(crate) side: S,
+    pub(crate) seat: Seat,
+    of: PhantomData<N>,
+}
+
+impl<N: OrderName, S: Sided> Model for Locked<N, S> {
+    ghost use Rattle.std.specs.Prelude.{◌≡◌};
+    ghost use Rattle.order_table.specs.Allowed.{Settled};
+    ghost use Rattle.order_table.specs.Views.{Owns};
+    ghost use Rattle.joint_history.specs.Locked.{Under};
+
+    ghost Value = { Under S };
+
+    ghost view = { λ l. record { side = l.side; view = l.seat.view } };
+
+    ghost invariant = { λ l. (l.seat.order ≡ N.order) × Owns l.seat.view S.line
+        × S.knows N.managed N.peers l.seat.view l.side × Settled l.seat.view };
+}
+
+impl<N: OrderName, S: Sided> Locked<N, S> {
+    /// A side with a seat that owns its line and knows it.
+    pub(crate) fn new(side: S, seat: Seat) -> Locked<N, S>
+        requires seat { (seat.order ≡ N.order) × Owns seat.view S.line × Settled seat.view }
+        requires knows { S.knows N.managed N.peers seat.view side }
+    {
+        Locked {
+            side,
+            seat,
+            of: PhantomData,
+        }
+    }
+
+    /// The side and its seat.
+    pub(crate) fn into_parts(self) -> (S, Seat)
+        ensures seat { (result.1.order ≡ N.order) × Owns result.1.view S.line × Settled result.1.view }
+        ensures knows { S.knows N.managed N.peers result.1.view result.0 }
+    {
+        let Locked { side, seat, of: _ } = self;
+        (side, seat)
+    }
+
+    /// Makes a step of the side by its seat, to which the caller's lines are lent meanwhile. `mine` is the caller's
+    /// seat, which knows then what the side's does. Answers what the step answers.
+    #[inline(always)]
+    pub(crate) fn make<T: Step<On = S>>(
+        &mut self,
+        order: &Order,
+        mine: &mut Seat,
+        caller: Thread,
+        step: T,
+    ) -> T::Out
+        requires order { (order.now ≡ N.order) × (mine.old.order ≡ N.order) }
+        requires settled { Settled mine.old.view }
+        requires pass { IsThread caller × HoldsPass caller mine.old.view }
+        requires fits { Fits S.line (S.knows N.managed N.peers) caller mine.old.view
+            (T.asks step) (T.drew step) (T.makes step) }
+        ensures order { mine.new.order ≡ N.order }
+        ensures settled { Settled mine.new.view }
+        ensures pass { HoldsPass caller mine.new.view }
+        ensures makes { T.makes step mine.old.view mine.new.view result }
+    {
+        lend(order, &mut self.seat, mine, caller);
+        let out = step.draw(&mut self.side, order, &mut self.seat);
+        give_back(order, &mut self.seat, mine, caller);
+        out
+    }
 }

@@ -5,8 +5,8 @@ use Rattle.joint_history.proofs.DriverCalls.{abandon_knows, abandoning_made, may
 use Rattle.joint_history.proofs.Fitting.{goes_further, lent_managed}
 use Rattle.joint_history.proofs.shared.Shared.abandon.Goals as goal
 
-pub drive_managed-requires-clause-fits : goal.drive_managed-requires-clause-fits
-drive_managed-requires-clause-fits g c =
+pub drive-requires-clause-fits : goal.drive-requires-clause-fits
+drive-requires-clause-fits g c =
     let may = c.requires.may in
     let mine = c.args.driver.now.view in
     let index = c.args.index in
@@ -24,7 +24,7 @@ drive_managed-requires-clause-fits g c =
       );
     }
 
-pub drive_managed-requires-clause-knows : goal.drive_managed-requires-clause-knows
-drive_managed-requires-clause-knows g c = λ w r made.
+pub drive-requires-clause-knows : goal.drive-requires-clause-knows
+drive-requires-clause-knows g c = λ w r made.
     let may = c.requires.may in
     (made may.opened may.stand may.seen may.stands may.unmirrored).1.stands.known

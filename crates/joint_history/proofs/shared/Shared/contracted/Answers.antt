@@ -7,8 +7,8 @@ use Rattle.joint_history.proofs.DriverCalls.{contraction_knows, contraction_made
 use Rattle.joint_history.proofs.Fitting.{goes_further, managed_line, managed_may}
 use Rattle.joint_history.proofs.shared.Shared.contracted.Goals as goal
 
-pub drive_managed-requires-clause-fits : goal.drive_managed-requires-clause-fits
-drive_managed-requires-clause-fits g c =
+pub drive-requires-clause-fits : goal.drive-requires-clause-fits
+drive-requires-clause-fits g c =
     let may = c.requires.may in
     let mine = c.args.driver.now.view in
     let index = c.args.index in
@@ -32,7 +32,7 @@ drive_managed-requires-clause-fits g c =
       );
     }
 
-pub drive_managed-requires-clause-knows : goal.drive_managed-requires-clause-knows
-drive_managed-requires-clause-knows g c = λ w r made.
+pub drive-requires-clause-knows : goal.drive-requires-clause-knows
+drive-requires-clause-knows g c = λ w r made.
     let may = c.requires.may in
     (made may.opened may.seen may.comps may.heavy may.pairs may.stands may.contraction).1.known

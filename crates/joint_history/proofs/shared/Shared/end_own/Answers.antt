@@ -7,8 +7,8 @@ use Rattle.joint_history.proofs.DriverMarks.{is_open, may_end_own, swept_under}
 use Rattle.joint_history.proofs.Fitting.{goes_further, peer_line, peer_may}
 use Rattle.joint_history.proofs.shared.Shared.end_own.Goals as goal
 
-pub drive_peers-requires-clause-fits : goal.drive_peers-requires-clause-fits
-drive_peers-requires-clause-fits g c =
+pub drive-requires-clause-fits : goal.drive-requires-clause-fits
+drive-requires-clause-fits g c =
     let may = c.requires.may in
     let mine = c.args.driver.now.view in
     let index = c.args.index in
@@ -26,7 +26,7 @@ drive_peers-requires-clause-fits g c =
           r.0 r.1 (may_end_own mine index may) d.2 d.1 in ((q.knows, q.reserves, d.0 ∙ w.known_side.2), q.makes));
     }
 
-pub drive_peers-requires-clause-knows : goal.drive_peers-requires-clause-knows
-drive_peers-requires-clause-knows g c = λ w r made.
+pub drive-requires-clause-knows : goal.drive-requires-clause-knows
+drive-requires-clause-knows g c = λ w r made.
     let may = c.requires.may in
     (made (marked may.opened) may.seen may.stands refl).stands.known

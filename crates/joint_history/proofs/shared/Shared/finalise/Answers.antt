@@ -13,8 +13,8 @@ use Rattle.joint_history.proofs.DriverCalls.{finalise_called}
 use Rattle.joint_history.proofs.Fitting.{goes_further, either_further, managed_line, managed_may}
 use Rattle.joint_history.proofs.shared.Shared.finalise.Goals as goal
 
-pub drive_managed-requires-clause-fits : goal.drive_managed-requires-clause-fits
-drive_managed-requires-clause-fits g c =
+pub drive-requires-clause-fits : goal.drive-requires-clause-fits
+drive-requires-clause-fits g c =
     let may = c.requires.may in
     let mine = c.args.driver.now.view in
     let index = c.args.index in
@@ -35,8 +35,8 @@ drive_managed-requires-clause-fits g c =
           c.args.count r may d.1 d.2 in ((q.knows, d.0 ∙ w.known_side.1), (q.ok, q.err)));
     }
 
-pub drive_managed-requires-clause-knows : goal.drive_managed-requires-clause-knows
-drive_managed-requires-clause-knows g c = λ w r made.
+pub drive-requires-clause-knows : goal.drive-requires-clause-knows
+drive-requires-clause-knows g c = λ w r made.
     let may = c.requires.may in
     known_either c.args.driver.now.view w r (λ (x : ℕ × Reply). MakesFinalise c.args.driver.now.view w c.args.index x.0 c.args.count x.1) made.0
     (λ x q. (q may.stand may.seen may.stands may.rests).1.known) made.1 c.args.index may.stand may.seen may.stands

@@ -7,8 +7,8 @@ use Rattle.joint_history.proofs.Fitting.{further_then, goes_further, peer_line, 
 use Rattle.joint_history.proofs.Reserving.{marking_is_due}
 use Rattle.joint_history.proofs.shared.Shared.mark.Goals as goal
 
-pub drive_peers-requires-clause-fits : goal.drive_peers-requires-clause-fits
-drive_peers-requires-clause-fits g c =
+pub drive-requires-clause-fits : goal.drive-requires-clause-fits
+drive-requires-clause-fits g c =
     let may = c.requires.may in
     let mine = c.args.driver.now.view in
     let index = c.args.index in
@@ -34,7 +34,7 @@ drive_peers-requires-clause-fits g c =
           );
     }
 
-pub drive_peers-requires-clause-knows : goal.drive_peers-requires-clause-knows
-drive_peers-requires-clause-knows g c = λ w r made.
+pub drive-requires-clause-knows : goal.drive-requires-clause-knows
+drive-requires-clause-knows g c = λ w r made.
     let n = may_begin c.args.driver.now.view made.between c.args.index r.ended made.ends c.requires.may in
     (made.begins n.opened n.count n.weakened n.swept n.seen n.stands n.all).stands.known

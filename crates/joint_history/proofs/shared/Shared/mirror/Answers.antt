@@ -10,8 +10,8 @@ use Rattle.joint_history.proofs.DriverPeerSteps.{under_peers}
 use Rattle.joint_history.proofs.Fitting.{goes_further, either_further, peer_line, peer_may}
 use Rattle.joint_history.proofs.shared.Shared.mirror.Goals as goal
 
-pub drive_peers-requires-clause-fits : goal.drive_peers-requires-clause-fits
-drive_peers-requires-clause-fits g c =
+pub drive-requires-clause-fits : goal.drive-requires-clause-fits
+drive-requires-clause-fits g c =
     let may = c.requires.may in
     let mine = c.args.driver.now.view in
     let index = c.args.index in
@@ -37,8 +37,8 @@ drive_peers-requires-clause-fits g c =
           c.args.cycle c.args.snap graph comps d.3 d.4 r may w.known_side.1 d.1 d.2 d.5 in ((q.knows, q.reserves, d.0 ∙ w.known_side.2), (q.ok, q.err)));
     }
 
-pub drive_peers-requires-clause-knows : goal.drive_peers-requires-clause-knows
-drive_peers-requires-clause-knows g c = λ w r made.
+pub drive-requires-clause-knows : goal.drive-requires-clause-knows
+drive-requires-clause-knows g c = λ w r made.
     let may = c.requires.may in
     known_either c.args.driver.now.view w r (λ (x : ℕ × ℕ). MakesMirror c.args.driver.now.view w c.args.index c.args.cycle c.args.snap c.args.graph.now c.args.comps.now x.1 x.0) made.0
     (λ x q. (q may.opened may.comps may.heavy may.pairs may.seen may.stands may.listed may.same_cycle may.same_snap).stands.known) made.1 c.args.index

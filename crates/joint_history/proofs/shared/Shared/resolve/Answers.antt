@@ -7,8 +7,8 @@ use Rattle.joint_history.proofs.DriverCalls.{may_close, resolution_knows, resolu
 use Rattle.joint_history.proofs.Fitting.{goes_further, lent_managed}
 use Rattle.joint_history.proofs.shared.Shared.resolve.Goals as goal
 
-pub drive_managed-requires-clause-fits : goal.drive_managed-requires-clause-fits
-drive_managed-requires-clause-fits g c =
+pub drive-requires-clause-fits : goal.drive-requires-clause-fits
+drive-requires-clause-fits g c =
     let may = c.requires.may in
     let mine = c.args.driver.now.view in
     let index = c.args.index in
@@ -32,7 +32,7 @@ drive_managed-requires-clause-fits g c =
       );
     }
 
-pub drive_managed-requires-clause-knows : goal.drive_managed-requires-clause-knows
-drive_managed-requires-clause-knows g c = λ w r made.
+pub drive-requires-clause-knows : goal.drive-requires-clause-knows
+drive-requires-clause-knows g c = λ w r made.
     let may = c.requires.may in
     (made.0 may.opened may.seen may.stands).rests.stands.known

@@ -12,8 +12,8 @@ use Rattle.joint_history.proofs.Fitting.{goes_further, peer_line, peer_may}
 use Rattle.joint_history.proofs.Reserving.{drew_reserves, restore_kept}
 use Rattle.joint_history.proofs.shared.Shared.restore.Goals as goal
 
-pub drive_peers-requires-clause-fits : goal.drive_peers-requires-clause-fits
-drive_peers-requires-clause-fits g c =
+pub drive-requires-clause-fits : goal.drive-requires-clause-fits
+drive-requires-clause-fits g c =
     let may = c.requires.may in
     let mine = c.args.driver.now.view in
     let index = c.args.index in
@@ -38,7 +38,7 @@ drive_peers-requires-clause-fits g c =
       );
     }
 
-pub drive_peers-requires-clause-knows : goal.drive_peers-requires-clause-knows
-drive_peers-requires-clause-knows g c = λ w r made.
+pub drive-requires-clause-knows : goal.drive-requires-clause-knows
+drive-requires-clause-knows g c = λ w r made.
     let may = c.requires.may in
     (made may.opened may.answers may.seen may.stands may.next).1.known

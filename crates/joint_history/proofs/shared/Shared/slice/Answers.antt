@@ -13,8 +13,8 @@ use Rattle.joint_history.proofs.Fitting.{same_further}
 use Rattle.joint_history.proofs.Reserving.{back_on, lent_on, nothing_kept, reserves_on}
 use Rattle.joint_history.proofs.shared.Shared.slice.Goals as goal
 
-pub drive_peers-requires-clause-fits : goal.drive_peers-requires-clause-fits
-drive_peers-requires-clause-fits g c =
+pub drive-requires-clause-fits : goal.drive-requires-clause-fits
+drive-requires-clause-fits g c =
     let index = c.requires.may.0 in
     let may = c.requires.may.1 in
     let mine = c.args.driver.now.view in
@@ -40,7 +40,7 @@ drive_peers-requires-clause-fits g c =
           );
     }
 
-pub drive_peers-requires-clause-knows : goal.drive_peers-requires-clause-knows
-drive_peers-requires-clause-knows g c = λ w r made.
+pub drive-requires-clause-knows : goal.drive-requires-clause-knows
+drive-requires-clause-knows g c = λ w r made.
     let may = c.requires.may in
     (made.stands may.0 (marked may.1.opened) may.1.seen may.1.stands).known

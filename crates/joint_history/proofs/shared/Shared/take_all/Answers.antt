@@ -12,7 +12,7 @@ finish-requires-clause-all g c =
     let l = as_side c.into_parts-managed_side.result.0 in
     let r = seen c.into_parts-peer_side.result.0 in
     owns_every c.gather_all.new.seat.view l r (entry_lists c.gather_all.new.lists)
-    (c.gather_all.ensures.gathers l r c.into_parts-managed_side.ensures.knows c.into_parts-peer_side.ensures.knows c.into_parts-managed_side.ensures.seat.2 c.into_parts-peer_side.ensures.seat.2)
+    (c.gather_all.ensures.gathers l r c.into_parts-managed_side.ensures.knows.0 c.into_parts-peer_side.ensures.knows.0 c.into_parts-managed_side.ensures.seat.1 c.into_parts-peer_side.ensures.seat.1)
 
 pub returns : goal.returns
 returns g c =
@@ -21,8 +21,8 @@ returns g c =
     record {
       before = c.into_parts-managed_side.result.1.view;
       seat = c.gather_all.new.seat.view;
-      gathered = c.gather_all.ensures.gathers l r c.into_parts-managed_side.ensures.knows
-          c.into_parts-peer_side.ensures.knows c.into_parts-managed_side.ensures.seat.2 c.into_parts-peer_side.ensures.seat.2;
+      gathered = c.gather_all.ensures.gathers l r c.into_parts-managed_side.ensures.knows.0
+          c.into_parts-peer_side.ensures.knows.0 c.into_parts-managed_side.ensures.seat.1 c.into_parts-peer_side.ensures.seat.1;
       whole = subst AllKnown c.finish.ensures.lines c.finish.ensures.whole;
       own = c.gather_all.ensures.own;
       waiting = c.gather_all.ensures.waiting;

@@ -9,8 +9,8 @@ use Rattle.joint_history.proofs.DriverSnaps.{may_snap, snapshot_called}
 use Rattle.joint_history.proofs.Fitting.{goes_further, either_further, lent_managed}
 use Rattle.joint_history.proofs.shared.Shared.try_snap.Goals as goal
 
-pub drive_managed-requires-clause-fits : goal.drive_managed-requires-clause-fits
-drive_managed-requires-clause-fits g c =
+pub drive-requires-clause-fits : goal.drive-requires-clause-fits
+drive-requires-clause-fits g c =
     let may = c.requires.may in
     let mine = c.args.driver.now.view in
     let index = c.args.index in
@@ -28,8 +28,8 @@ drive_managed-requires-clause-fits g c =
           r may d.1 d.3 in ((q.knows, d.0 ∙ w.known_side.1), (q.ok, d.2, q.err)));
     }
 
-pub drive_managed-requires-clause-knows : goal.drive_managed-requires-clause-knows
-drive_managed-requires-clause-knows g c = λ w r made.
+pub drive-requires-clause-knows : goal.drive-requires-clause-knows
+drive-requires-clause-knows g c = λ w r made.
     let may = c.requires.may in
     known_either c.args.driver.now.view w r (λ o. MakesSnapshot c.args.driver.now.view w c.args.index o) made.0
     (λ o q. (q may.seen may.stands).stands.known) made.2 c.args.index idle may.seen may.stands

@@ -2,10 +2,10 @@ use Rattle.std.proofs.Common.{sym, subst}
 use Rattle.joint_machine.specs.declared.names.Thread.TheVariants.{C}
 use Rattle.joint_machine.specs.Lines.{IsDriver}
 use Rattle.joint_history.specs.Callers.{Pass}
-use Rattle.joint_history.specs.Steps.{Fits, KnowsManaged}
+use Rattle.joint_history.specs.Steps.{Fits}
 use Rattle.joint_history.proofs.DriverCallers.{driver_called}
 use Rattle.joint_history.proofs.DriverHears.{driver_pass, driver_pass_back, driver_reads}
-use Rattle.joint_history.proofs.shared.Shared.drive_managed.Goals as goal
+use Rattle.joint_history.proofs.shared.Shared.drive.Goals as goal
 
 pub make-requires-clause-pass : goal.make-requires-clause-pass
 make-requires-clause-pass g c = (
@@ -14,7 +14,7 @@ make-requires-clause-pass g c = (
 )
 
 pub make-requires-clause-fits : goal.make-requires-clause-fits
-make-requires-clause-fits g c = subst (λ (p : Pass). Fits 0 (KnowsManaged g.N.OrderName.managed) C p.view
+make-requires-clause-fits g c = subst (λ (p : Pass). Fits g.S.Sided.line (g.S.Sided.knows g.N.OrderName.managed g.N.OrderName.peers) C p.view
     (g.T.Step.asks c.args.step) (g.T.Step.drew c.args.step) (g.T.Step.makes c.args.step)) (sym c.driver.view_is) c.requires.fits
 
 pub invariant_of-driver : goal.invariant_of-driver
