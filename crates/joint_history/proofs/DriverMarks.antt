@@ -23,7 +23,7 @@ use Rattle.order_table.specs.declared.views.View.{View}
 use Rattle.order_table.specs.Views.{OrderId, Shown, Owns, known}
 use Rattle.joint_history.specs.Callers.{HoldsPass}
 use Rattle.joint_history.specs.Driven.{DriverMakesNone, DriverStands, driver_entry}
-use Rattle.joint_history.specs.DriverMarks.{DrawsEnd, DrawsSweep, EndsFirst, HasBegunMarking, MakesBegin, MakesSweep, MayBeginMarking, MayEndMarking, MayMarkCycle, after_sweep}
+use Rattle.joint_history.specs.DriverMarks.{DrawsEnd, DrawsSweep, EndsFirst, HasBegunMarking, MakesBegin, MakesSweep, MayMarkCycle, after_sweep}
 use Rattle.joint_history.specs.Knowing.{line_known}
 use Rattle.joint_history.specs.Locked.{Drew, PeerKnows, PeerReserves}
 use Rattle.joint_history.specs.Steps.{GoesFurther}
@@ -122,19 +122,33 @@ leaves_none order seat seat' old new index (Some r) d =
       line = λ same. list_more seat.view seat'.view 1 w.kept e old.entries new.entries w.entry w.appends.grows same w.added;
     }
 
--- after a draw under the lock
-module _ (locked mine mine1 locked2 mine2 : View) (order : OrderId) (seat seat' : Shown) (old new : Side PeerReplay) (index : ℕ) (pass : HoldsPass C mine)
-    (owns : Owns locked 1) (short : index < 2 ^ 32) (ks : PeerKnows locked old) (l : Lends C locked mine seat.view mine1) (b : Returns C seat'.view mine1 locked2 mine2) where
-  -- the sweep
-  with_sweep : (n : ℕ) (out : Swept) (d : DrawsSweep order seat seat' old new index n out) (stand : Stand) (m : Managed)
+-- what a sweep and a begin leave under the lock, with what is reserved
+pub record LeavesUnder (locked2 : View) (new : PeerModel) (Made : Type 0) : Type 0 where
+  pub knows : PeerKnows locked2 (seen new)
+  pub reserves : PeerReserves locked2 new
+  pub makes : Made
+
+-- the driver may begin its cycle's own marking: all handles of the cycle are weakened
+pub record MayBeginMarking (v : View) (index : ℕ) : Type 0 where
+  pub opened : OpenSnap
+  pub count : ℕ
+  pub weakened : Bool
+  pub swept : Bool
+  pub seen : Managed
+  pub stands : DriverStands v index (weakening opened count weakened swept) seen
+  pub all : count ≡ length (candidates_of seen)
+
+module _ (locked mine mine1 locked2 mine2 : View) (order : OrderId) (seat seat' : Shown) (old new : PeerModel) (index : ℕ) (pass : HoldsPass C mine) (owns : Owns locked 1)
+    (short : index < 2 ^ 32) (ks : PeerKnows locked (seen old)) (rs : PeerReserves locked old) (l : Lends C locked mine seat.view mine1) (b : Returns C seat'.view mine1 locked2 mine2) where
+  with_sweep : (n : ℕ) (out : Swept) (d : DrawsSweep order seat seat' (seen old) (seen new) index n out) (stand : Stand) (m : Managed)
       → DriverStands mine index stand m → MaySweepNow stand (length (candidates_of m)) None
-      → DrivenUnderPeers mine locked2 mine2 old new index stand m (driver_entry n index op.Sweep (says.Swept out.marking out.freed) None) (sweep_of d.freed)
+      → DrivenUnderPeers mine locked2 mine2 (seen old) (seen new) index stand m (driver_entry n index op.Sweep (says.Swept out.marking out.freed) None) (sweep_of d.freed)
   with_sweep n out d stand m s now =
-      driven_peers locked mine mine1 locked2 mine2 order seat seat' old new index stand m
+      driven_peers locked mine mine1 locked2 mine2 order seat seat' (seen old) (seen new) index stand m
       (driver_entry n index op.Sweep (says.Swept out.marking out.freed) None) (sweep_of d.freed) pass owns refl refl short ks s
       (λ u. subst (λ (c : ℕ). MaySweepNow stand c None) (count_same m u.state.managed.managed u.dead) now) l d.drew b
 
-  pub sweep_made : (n : ℕ) (out : Swept) → DrawsSweep order seat seat' old new index n out → MakesSweep mine mine2 index n out
+  sweep_made : (n : ℕ) (out : Swept) → DrawsSweep order seat seat' (seen old) (seen new) index n out → MakesSweep mine mine2 index n out
   sweep_made n out d stand m s now =
       let w = (with_sweep n out d stand m s now).driven in
       record {
@@ -144,28 +158,41 @@ module _ (locked mine mine1 locked2 mine2 : View) (order : OrderId) (seat seat' 
         stands = subst (λ (z : Stand). DriverStands mine2 index z m) (sweep_next stand n (says.Swept out.marking out.freed) w.told_now) w.stands;
       }
 
-  pub sweep_knows : (n : ℕ) (out : Swept) → DrawsSweep order seat seat' old new index n out → MayEndMarking mine index → PeerKnows locked2 new
-  sweep_knows n out d w = (with_sweep n out d w.stand w.seen w.stands w.now).knows
+  -- the sweep, from wherever the driver may make it
+  pub swept_under : (n : ℕ) (out : Swept) (stand : Stand) (m : Managed) → DriverStands mine index stand m → MaySweepNow stand (length (candidates_of m)) None
+      → DrawsSweep order seat seat' (seen old) (seen new) index n out → new.reserve ≡ old.reserve → LeavesUnder locked2 new (MakesSweep mine mine2 index n out)
+  swept_under n out stand m s now d same =
+      let e : Entry = driver_entry n index op.Sweep (says.Swept out.marking out.freed) None in
+      record {
+        knows = (with_sweep n out d stand m s now).knows;
+        reserves = drew_reserves C locked mine mine1 locked2 mine2 order seat seat' old new e (sweep_of d.freed) ks rs l d.drew b
+            (quiet_kept order seat seat' old new e (sweep_of d.freed) d.drew same tt (λ due. refl));
+        makes = sweep_made n out d;
+      }
 
-  -- the begin
-  with_begin : (n : ℕ) (j : Number) → Drew peer_rules 1 order seat seat' old new (driver_entry n index op.Begin (says.Mark j) None) nothing
+  with_begin : (n : ℕ) (j : Number) → Drew peer_rules 1 order seat seat' (seen old) (seen new) (driver_entry n index op.Begin (says.Mark j) None) nothing
       → (o : OpenSnap) (count : ℕ) (weakened swept : Bool) (m : Managed) → DriverStands mine index (weakening o count weakened swept) m
-      → count ≡ length (candidates_of m) → DrivenUnderPeers mine locked2 mine2 old new index (weakening o count weakened swept) m (driver_entry n index op.Begin (says.Mark j) None) nothing
+      → count ≡ length (candidates_of m) → DrivenUnderPeers mine locked2 mine2 (seen old) (seen new) index (weakening o count weakened swept) m
+      (driver_entry n index op.Begin (says.Mark j) None) nothing
   with_begin n j d o count weakened swept m s all =
-      driven_peers locked mine mine1 locked2 mine2 order seat seat' old new index (weakening o count weakened swept) m
+      driven_peers locked mine mine1 locked2 mine2 order seat seat' (seen old) (seen new) index (weakening o count weakened swept) m
       (driver_entry n index op.Begin (says.Mark j) None) nothing pass owns refl refl short ks s
       (λ u. (all ∙ count_same m u.state.managed.managed u.dead, refl)) l d b
 
-  pub begin_made : (n : ℕ) (j : Number) → Drew peer_rules 1 order seat seat' old new (driver_entry n index op.Begin (says.Mark j) None) nothing → MakesBegin mine mine2 index n j
+  begin_made : (n : ℕ) (j : Number) → Drew peer_rules 1 order seat seat' (seen old) (seen new) (driver_entry n index op.Begin (says.Mark j) None) nothing → MakesBegin mine mine2 index n j
   begin_made n j d o count weakened swept m s all = let w = (with_begin n j d o count weakened swept m s all).driven in record { makes = w.makes; stands = w.stands }
 
-  pub begin_knows : (n : ℕ) (j : Number) → Drew peer_rules 1 order seat seat' old new (driver_entry n index op.Begin (says.Mark j) None) nothing → MayBeginMarking mine index → PeerKnows locked2 new
-  begin_knows n j d w = (with_begin n j d w.opened w.count w.weakened w.swept w.seen w.stands w.all).knows
+  -- the begin
+  begun_under : (n : ℕ) (j : Number) → MayBeginMarking mine index → Drew peer_rules 1 order seat seat' (seen old) (seen new) (driver_entry n index op.Begin (says.Mark j) None) nothing
+      → old.reserve.marking ≡ true → new.reserve ≡ reserve_begun (is_own C old.reserve.marking) old.reserve → LeavesUnder locked2 new (MakesBegin mine mine2 index n j)
+  begun_under n j may d due same = record {
+    knows = (with_begin n j d may.opened may.count may.weakened may.swept may.seen may.stands may.all).knows;
+    reserves = drew_reserves C locked mine mine1 locked2 mine2 order seat seat' old new (driver_entry n index op.Begin (says.Mark j) None) nothing ks rs l d b
+        (begin_kept order seat seat' old new n index (says.Mark j) d due same);
+    makes = begin_made n j d;
+  }
 
-pub may_end_own : (v : View) (index : ℕ) → HasBegunMarking v index → MayEndMarking v index
-may_end_own v index w = record { stand = marked w.opened; seen = w.seen; stands = w.stands; now = refl }
-
--- and then the own one may begin
+-- the own one may begin after whatever was open is ended
 pub may_begin : (old between : View) (index : ℕ) (ended : Option (ℕ × Swept)) → EndsFirst old between index ended → MayMarkCycle old index → MayBeginMarking between index
 may_begin old between index None e w = record {
   opened = w.opened;
@@ -194,37 +221,6 @@ none_then_sweep u v w index n out a t stand m s now =
       stands = d.stands;
     }
 
--- what a sweep and a begin leave under the lock, with what is reserved
-pub record LeavesUnder (locked2 : View) (new : PeerModel) (Made : Type 0) : Type 0 where
-  pub knows : PeerKnows locked2 (seen new)
-  pub reserves : PeerReserves locked2 new
-  pub makes : Made
-
-module _ (locked mine mine1 locked2 mine2 : View) (order : OrderId) (seat seat' : Shown) (old new : PeerModel) (index : ℕ) (pass : HoldsPass C mine) (owns : Owns locked 1)
-    (short : index < 2 ^ 32) (ks : PeerKnows locked (seen old)) (rs : PeerReserves locked old) (l : Lends C locked mine seat.view mine1) (b : Returns C seat'.view mine1 locked2 mine2) where
-  pub swept_under : (n : ℕ) (out : Swept) → MayEndMarking mine index → DrawsSweep order seat seat' (seen old) (seen new) index n out
-      → new.reserve ≡ old.reserve → LeavesUnder locked2 new (MakesSweep mine mine2 index n out)
-  swept_under n out may d same =
-      let e : Entry = driver_entry n index op.Sweep (says.Swept out.marking out.freed) None in
-      record {
-        knows = sweep_knows locked mine mine1 locked2 mine2 order seat seat' (seen old) (seen new) index pass owns short ks l b n out d may;
-        reserves = drew_reserves C locked mine mine1 locked2 mine2 order seat seat' old new e (sweep_of d.freed) ks rs l d.drew b
-            (quiet_kept order seat seat' old new e (sweep_of d.freed) d.drew same tt (λ due. refl));
-        makes = sweep_made locked mine mine1 locked2 mine2 order seat seat' (seen old) (seen new) index pass owns short ks l b n out d;
-      }
-
-  begun_under : (n : ℕ) (j : Number) → MayBeginMarking mine index → Drew peer_rules 1 order seat seat' (seen old) (seen new) (driver_entry n index op.Begin (says.Mark j) None) nothing
-      → old.reserve.marking ≡ true → new.reserve ≡ reserve_begun (is_own C old.reserve.marking) old.reserve → LeavesUnder locked2 new (MakesBegin mine mine2 index n j)
-  begun_under n j may d due same = record {
-    knows = begin_knows locked mine mine1 locked2 mine2 order seat seat' (seen old) (seen new) index pass owns short ks l b n j d may;
-    reserves = drew_reserves C locked mine mine1 locked2 mine2 order seat seat' old new (driver_entry n index op.Begin (says.Mark j) None) nothing ks rs l d b
-        (begin_kept order seat seat' old new n index (says.Mark j) d due same);
-    makes = begin_made locked mine mine1 locked2 mine2 order seat seat' (seen old) (seen new) index pass owns short ks l b n j d;
-  }
-
-may_end_first : (v : View) (index : ℕ) → MayMarkCycle v index → MayEndMarking v index
-may_end_first v index w = record { stand = weakening w.opened w.count w.weakened false; seen = w.seen; stands = w.stands; now = (w.all, refl, refl) }
-
 none_made : (v : View) → DriverMakesNone v v
 none_made v = record { own = refl; more = λ i. prefix_refl (known v i); stands = λ index stand seen s. s }
 
@@ -248,7 +244,7 @@ marked_under locked mine mine1 locked2 mine2 order seat mid seat' old cleared ne
 marked_under locked mine mine1 locked2 mine2 order seat mid seat' old cleared new index n j (Some w) pass owns short ks rs may l e d r due b =
     let f = goes_further order seat mid 1 e.2.drew.kept e.2.drew.appends in
     let s = swept_under locked mine (bare mine) mid.view mid.view order seat mid old cleared index pass owns short ks rs (lends_bare C locked mine seat.view mine1 l)
-    (pauses C mid.view mine) w.0 w.1 (may_end_first mine index may) e.2 e.1 in
+    (pauses C mid.view mine) w.0 w.1 (weakening may.opened may.count may.weakened false) may.seen may.stands (may.all, refl, refl) e.2 e.1 in
     let q = begun_under mid.view mid.view (bare mid.view) locked2 mine2 order mid seat' cleared new index (λ i g. f.owns i (l.lines i g (pass i g))) (f.owns 1 (l.kept 1 owns)) short
     s.knows s.reserves (goes_on C mid.view e.2.drew.appends.one_history) (returns_bare C seat'.view mine1 locked2 mine2 mid.view b)
     n j (may_begin mine mid.view index (Some w) s.makes may) d (ap (λ (x : Reserve). x.marking) e.1 ∙ due) r in

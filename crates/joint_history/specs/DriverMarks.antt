@@ -42,13 +42,6 @@ pub record DrawsMark (order : OrderId) (seat seat' : Shown)
   pub reserve : side'.reserve ≡ reserve_begun (is_own C cleared.reserve.marking) cleared.reserve
   pub threads : side'.threads ≡ cleared.threads
 
--- the driver may end a marking: all its candidates' handles are weakened and it hasn't ended one, or its own is begun
-pub record MayEndMarking (v : View) (index : ℕ) : Type 0 where
-  pub stand : Stand
-  pub seen : Managed
-  pub stands : DriverStands v index stand seen
-  pub now : MaySweepNow stand (length (candidates_of seen)) None
-
 -- the cycle's own marking is begun
 pub record HasBegunMarking (v : View) (index : ℕ) : Type 0 where
   pub opened : OpenSnap
@@ -81,16 +74,6 @@ pub record MayMarkCycle (v : View) (index : ℕ) : Type 0 where
   pub weakened : Bool
   pub seen : Managed
   pub stands : DriverStands v index (weakening opened count weakened false) seen
-  pub all : count ≡ length (candidates_of seen)
-
--- all handles of the driver's cycle are weakened, and its own marking isn't begun
-pub record MayBeginMarking (v : View) (index : ℕ) : Type 0 where
-  pub opened : OpenSnap
-  pub count : ℕ
-  pub weakened : Bool
-  pub swept : Bool
-  pub seen : Managed
-  pub stands : DriverStands v index (weakening opened count weakened swept) seen
   pub all : count ≡ length (candidates_of seen)
 
 -- the driver began its cycle's own marking, which has that number

@@ -3,7 +3,7 @@ use Rattle.joint_machine.specs.declared.names.Thread.TheVariants.{C}
 use Rattle.joint_machine.specs.declared.events.Op.TheVariants as op
 use Rattle.joint_machine.specs.Control.{marked}
 use Rattle.peer_heap.specs.Sides.{seen}
-use Rattle.joint_history.proofs.DriverMarks.{is_open, may_end_own, swept_under}
+use Rattle.joint_history.proofs.DriverMarks.{is_open, swept_under}
 use Rattle.joint_history.proofs.Fitting.{goes_further, peer_line, peer_may}
 use Rattle.joint_history.proofs.shared.Shared.end_own.Goals as goal
 
@@ -23,7 +23,7 @@ drive-requires-clause-fits g c =
       further = λ order lent lent2 s s2 r d. goes_further order lent lent2 1 d.2.drew.kept d.2.drew.appends;
       left = λ order lent lent2 mine1 locked2 mine2 s s2 r w d b.
           (let q = swept_under w.locked mine mine1 locked2 mine2 order lent lent2 s s2 index w.pass w.owns short w.known_side.0 w.known_side.1 w.lends b
-          r.0 r.1 (may_end_own mine index may) d.2 d.1 in ((q.knows, q.reserves, d.0 ∙ w.known_side.2), q.makes));
+          r.0 r.1 (marked may.opened) may.seen may.stands refl d.2 d.1 in ((q.knows, q.reserves, d.0 ∙ w.known_side.2), q.makes));
     }
 
 pub drive-requires-clause-knows : goal.drive-requires-clause-knows
