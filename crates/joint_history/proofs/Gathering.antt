@@ -1,9 +1,9 @@
 -- At the end of a run all seats are taken into one, which knows all lists whole and that each thread has come to rest.
 -- So the lists are joined to a linked history, which ends in both sides' states, but for the pins.
-use Rattle.std.proofs.Common.{◌≡◌, ◌⊎◌, inl, inr, ⊎_elim, ℕ, ◌-◌, ◌<◌, ◌≤◌, List, [], ◌∷◌, ◌++◌, length, take, Some, None, refl, sym, ap, ◌∙◌, subst, arith}
+use Rattle.std.proofs.Common.{◌≡◌, ◌⊎◌, inl, inr, ⊎_elim, ℕ, ◌-◌, ◌<◌, ◌≤◌, List, [], ◌∷◌, ◌++◌, length, take, Option, Some, None, refl, sym, ap, ◌∙◌, subst, arith}
 use Rattle.std.specs.Prelude.{Contains}
 use Rattle.std.proofs.lemmas.List.Elements.{Contains-push_cases}
-use Rattle.joint_history.specs.Ending.{all_lists, with_reads, AtRest, HasGatheredSeats, GathersAll, IsFinishedWith, HasIdleDriver, Rests}
+use Rattle.joint_history.specs.Ending.{all_lists, with_reads, HasGatheredSeats, GathersAll, IsFinishedBy, HasIdleDriver, Rests}
 use Rattle.std.proofs.lemmas.List.{append-nil, append_assoc}
 use Rattle.joint_machine.proofs.Members.{Contains-nil}
 use Rattle.joint_history.specs.Callers.{CallerKnows, KeepsReads, HoldsPass}
@@ -25,6 +25,7 @@ use Rattle.joint_machine.specs.Shuffles.{IsJoinable, IsShuffle}
 use Rattle.joint_machine.specs.HistoryLines.{caller_line}
 use Rattle.joint_machine.specs.Lines.{IsThread, IsEvent, IsManagedThread}
 use Rattle.joint_machine.specs.Linked.{IsWhole, Linkage}
+use Rattle.joint_machine.specs.LinkedHistories.{linked_end}
 use Rattle.joint_model.specs.Listed.{Stock}
 use Rattle.joint_machine.specs.ManagedReplay.{ManagedReplay}
 use Rattle.joint_machine.specs.PeerReplay.{PeerReplay}
@@ -41,11 +42,27 @@ use Rattle.order_table.specs.Facts.{entries_of, line_entries}
 use Rattle.order_table.specs.Rule.{AreLinesOfOneHistory as AllKnown}
 use Rattle.order_table.specs.Tells.{TakesIn, BeginsOneHistory}
 use Rattle.order_table.specs.Views.{Owns, OwnsAll}
+use Rattle.view_laws.specs.Knowing.{IsDrawnView}
 use Rattle.view_laws.proofs.Joined.{whole_lists_are_joined}
 use Rattle.joint_history.proofs.GatheredReads.{all_lists_known, gather_reads}
 use Rattle.joint_history.proofs.KnownCallers.{own_line}
 use Rattle.joint_history.proofs.KnownViews.{views_join}
 use Rattle.joint_history.proofs.Standing.{widths}
+
+-- a thread's seat, with its reads, when the thread has come to rest
+pub record AtRest (t : Thread) (v : View) (reads : List Entry) : Type 0 where
+  pub known : IsDrawnView v
+  pub pass : HoldsPass t v
+  pub keeps : KeepsReads t v reads
+  pub rests : Rests t (end_of known.known.past)
+
+-- a history is finished by some notes, after which both sides' states are these, but for the pins
+pub record IsFinishedWith (h : Finished) (l : ManagedReplay) (r : PeerReplay) : Type 0 where
+  pub noted : List Noted
+  pub finished : IsFinishedBy h noted
+  pub pins : List (Option ℕ)
+  pub managed : (linked_end noted).managed ≡ with_pins l pins
+  pub peer : (linked_end noted).peer ≡ r
 
 rests_so : (t : Thread) (a b : List Noted) → line (caller_line t) a ≡ line (caller_line t) b → Rests t (end_of b) → Rests t (end_of a)
 rests_so (M n) a b e d = subst IsDone (sym ((lines_give_parts a b).doing n e)) d

@@ -21,9 +21,9 @@ use Rattle.order_table.specs.Views.{OwnsAll}
 use Rattle.joint_history.specs.Callers.{Pass}
 use Rattle.joint_history.specs.Desks.{Waiting, present}
 use Rattle.joint_history.specs.declared.ends.RunEnd.{RunEnd}
-use Rattle.joint_history.specs.Ending.{all_lists, AllAreIn, AllTaken, AreNumbersOf, BeginsHistory, HasEndNumbers, HasOwn, IsFinished, IsFinishedWith, IsKnownHistory, StillWaits}
+use Rattle.joint_history.specs.Ending.{all_lists, AllAreIn, AllTaken, AreNumbersOf, BeginsHistory, HasEndNumbers, HasOwn, IsFinished, IsKnownHistory, StillWaits}
 use Rattle.joint_history.proofs.Ended.{all_begin_history, all_begin_past, all_have_own, few_entries, made_none}
-use Rattle.joint_history.proofs.Gathering.{Ends, all_gathered, owns_all}
+use Rattle.joint_history.proofs.Gathering.{Ends, IsFinishedWith, all_gathered, owns_all}
 
 pub owns_every : (y : View) (l : Side ManagedReplay) (r : Side PeerReplay) (lists : List (List Entry)) → AllAreIn y l r lists → OwnsAll y
 owns_every y l r lists g = owns_all y l r lists g.threads g.gathered g.all

@@ -31,11 +31,11 @@ use Rattle.peer_heap.specs.Steps.{IsRelease}
 use Rattle.joint_history.specs.Callers.{CallerKnows, KeepsReads, last_index}
 use Rattle.joint_history.specs.Knowing.{line_known}
 use Rattle.joint_history.specs.Locked.{Makes, MakesNone, MayMake, doing_from, made_by}
-use Rattle.joint_history.specs.Operations.{AreAbove, StopsWithoutMemory, OpensOperation, IsEventLine, IsMadeByEvents, IsOwnThread, IsSideEvent, MakesAll, MayBegin, ReadsExactly, Runs, answer_of}
+use Rattle.joint_history.specs.Operations.{AreAbove, StopsWithoutMemory, IsEventLine, IsMadeByEvents, IsOwnThread, IsSideEvent, MakesAll, MayBegin, ReadsExactly, Runs, answer_of}
 use Rattle.joint_history.specs.Operations.{cited_by, entry_by, first_of, second_of, third_of}
 use Rattle.joint_history.proofs.LastLines.{last_line_is}
 use Rattle.joint_history.proofs.Narrow.{GripsFew, past_grips_few}
-use Rattle.joint_history.proofs.Turning.{first_may, met_then_release, stands_knows, then_adopt, then_land, then_meet, then_release}
+use Rattle.joint_history.proofs.Turning.{OpensOperation, first_may, met_then_release, stands_knows, then_adopt, then_land, then_meet, then_release}
 
 -- what an event leaves by its result
 pub none_from : {A : Type 0} (o : Option A) → ((x : A) → o ≡ Some x → ⊥) → o ≡ None

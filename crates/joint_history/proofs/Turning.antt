@@ -24,7 +24,7 @@ use Rattle.order_table.specs.declared.views.View.{View}
 use Rattle.joint_history.specs.Knowing.{line_known}
 use Rattle.joint_history.specs.Callers.{CallerKnows, HasReleased, last_index}
 use Rattle.joint_history.specs.Locked.{IsTurn, Makes, MakesNone, MayMake, Stands, doing_from, doing_of, made_by}
-use Rattle.joint_history.specs.Operations.{OpensOperation, IsOwnThread, MayBegin}
+use Rattle.joint_history.specs.Operations.{IsOwnThread, MayBegin}
 use Rattle.joint_history.proofs.LastLines.{last_line_is}
 use Rattle.known_laws.proofs.Turning.{starts}
 
@@ -53,6 +53,14 @@ released_by C s d e w = tt
 -- and it has ended one where it has nothing left to release
 pub stands_knows : (t : Thread) (v : View) (index : ℕ) (d : Doing) → Stands t v index d → IsDone d → CallerKnows t v
 stands_knows t v index d s w = record { known = s.known; released = released_by t (end_of s.known.known.past) d s.doing w }
+
+-- the event is the first of an operation
+abbrev pub OpensOperation : Op → Type 0
+OpensOperation (op.Adopt v kind k p h) = ⊥
+OpensOperation (op.Land h x) = ⊥
+OpensOperation (op.Meet v sort k p h) = ⊥
+OpensOperation (op.Release h) = ⊥
+OpensOperation o = Unit {0}
 
 first_turn : (t : Thread) (d : Doing) (index : ℕ) (o : Op) → IsOwnThread t → IsDone d → OpensOperation o → IsTurn t d index o None
 first_turn (M n) d index o is w f = by o f

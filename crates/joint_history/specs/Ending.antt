@@ -1,6 +1,6 @@
 -- The end of a run: all seats are taken into one.
 use Rattle.std.specs.Prelude.{◌≡◌, ◌⊎◌, ℕ, ◌+◌, List, [], ◌++◌, length, map, All, count_by, is_some, Contains, IsSome}
-use Rattle.std.specs.Prelude.{Option, slice_get, slice_index_or, slice_set}
+use Rattle.std.specs.Prelude.{slice_get, slice_index_or, slice_set}
 use mathlib.Core.List.{IsPrefix}
 use Rattle.joint_machine.specs.declared.names.Thread.{Thread}
 use Rattle.joint_machine.specs.declared.names.Thread.TheVariants.{M, P, C}
@@ -12,7 +12,6 @@ use Rattle.joint_machine.specs.Linked.{Linkage}
 use Rattle.joint_machine.specs.LinkedHistories.{HasQueued, IsLinkedBy, linked_end}
 use Rattle.joint_machine.specs.ManagedReplay.{ManagedReplay}
 use Rattle.joint_machine.specs.PeerReplay.{PeerReplay}
-use Rattle.joint_machine.specs.PinsTold.{with_pins}
 use Rattle.joint_machine.specs.Sides.{Side}
 use Rattle.joint_machine.specs.Told.{Noted}
 use Rattle.known_laws.specs.Drawn.{of_drawn}
@@ -24,7 +23,7 @@ use Rattle.order_table.specs.declared.views.View.{View}
 use Rattle.order_table.specs.Rule.{AreLinesOfOneHistory}
 use Rattle.order_table.specs.Views.{Owns, known}
 use Rattle.joint_machine.specs.Lines.{IsDriver, IsThread}
-use Rattle.joint_history.specs.Callers.{HoldsPass, KeepsReads, Pass, own}
+use Rattle.joint_history.specs.Callers.{HoldsPass, Pass, own}
 use Rattle.joint_history.specs.declared.ends.RunEnd.{RunEnd}
 use Rattle.joint_history.specs.Desks.{Waiting, flat, present}
 use Rattle.joint_history.specs.Knowing.{line_known}
@@ -35,13 +34,6 @@ abbrev pub Rests : Thread → Linkage → Type 0
 Rests (M n) s = IsDone (doing_at s.control n)
 Rests (P n) s = Unit {0}
 Rests C s = s.control.stand ≡ idle
-
--- a thread's seat, with its reads, when the thread has come to rest
-pub record AtRest (t : Thread) (v : View) (reads : List Entry) : Type 0 where
-  pub known : IsDrawnView v
-  pub pass : HoldsPass t v
-  pub keeps : KeepsReads t v reads
-  pub rests : Rests t (end_of known.known.past)
 
 -- the lists with a thread's reads at the place of its reader's line
 abbrev pub with_reads : Thread → List Entry → List (List Entry) → List (List Entry)
@@ -130,14 +122,6 @@ pub record IsKnownHistory (callers : List Pass) (h : Finished) : Type 0 where
 pub record IsFinishedBy (h : Finished) (noted : List Noted) : Type 0 where
   pub linked : IsLinkedBy h noted
   pub queued : HasQueued h noted
-
--- so it is by some notes, after which both sides' states are these, but for the pins
-pub record IsFinishedWith (h : Finished) (l : ManagedReplay) (r : PeerReplay) : Type 0 where
-  pub noted : List Noted
-  pub finished : IsFinishedBy h noted
-  pub pins : List (Option ℕ)
-  pub managed : (linked_end noted).managed ≡ with_pins l pins
-  pub peer : (linked_end noted).peer ≡ r
 
 -- so it is by some notes
 pub record IsFinished (h : Finished) : Type 0 where

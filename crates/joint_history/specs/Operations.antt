@@ -37,14 +37,6 @@ IsOwnThread (M n) = (1 ≤ n) × (n ≤ 8)
 IsOwnThread (P n) = (1 ≤ n) × (n ≤ 8)
 IsOwnThread C = ⊥
 
--- the event is the first of an operation
-abbrev pub OpensOperation : Op → Type 0
-OpensOperation (op.Adopt v kind k p h) = ⊥
-OpensOperation (op.Land h x) = ⊥
-OpensOperation (op.Meet v sort k p h) = ⊥
-OpensOperation (op.Release h) = ⊥
-OpensOperation o = Unit {0}
-
 -- the thread may begin an operation on that line: it has nothing left to release, and its last line isn't above
 pub record MayBegin (t : Thread) (v : View) (index : ℕ) : Type 0 where
   pub doing : Doing

@@ -75,7 +75,8 @@ abbrev pub DrewManaged : {E : Type 0} → Thread → ℕ → Op → Option ℕ �
     → Shown → Shown → ManagedModel → ManagedModel → Result (ℕ × Reply) E → Type 0
 DrewManaged t index o cites told order seat seat' s s' result = (s'.threads ≡ s.threads)
     × IfOk result (λ r. Drew managed_rules 0 order seat seat' (as_side s) (as_side s')
-    (numbered r.0 (made_by t index o r.1 cites)) told) × OnErr result (StaysSeated seat seat' × (as_side s' ≡ as_side s))
+    (numbered r.0 (made_by t index o r.1 cites)) told)
+    × OnErr result (StaysSeated seat seat' × (as_side s' ≡ as_side s))
 
 -- an event makes its entry for its thread, or none where there was no memory; the thread's reads stay as they are
 pub record MakesEvent {E : Type 0} (t : Thread) (index : ℕ) (o : Op)

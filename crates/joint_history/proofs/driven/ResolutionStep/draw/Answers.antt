@@ -23,45 +23,13 @@ resolve-out-requires-clause-may c = λ k e.
       targets = λ m x. absurd x;
     }
 
-pub settle_ended-requires-clause-seat : goal.settle_ended-requires-clause-seat
-settle_ended-requires-clause-seat c =
+pub settle_ended-requires : goal.settle_ended-requires
+settle_ended-requires c =
     let r = c.resolve-out.ensures.resolves in
     let a = r.adds in
     let w = cycle_ended _ _ c.args.seat.now _ (as_side c.args.side.now) (as_side c.resolve-out.new.self) _ r.cycle c.requires.asks.1.knows c.requires.asks.1.owns c.requires.asks.1.same
     c.requires.settled r.opened a.draws.adds.drawn.3 refl refl refl (frees_these _ _ _ r.freed (ap (λ (r : ManagedReplay). r.managed.heap) a.goes.state) refl) in
-    search rules
-
-pub settle_ended-requires-clause-agrees : goal.settle_ended-requires-clause-agrees
-settle_ended-requires-clause-agrees c =
-    let r = c.resolve-out.ensures.resolves in
-    let a = r.adds in
-    let w = cycle_ended _ _ c.args.seat.now _ (as_side c.args.side.now) (as_side c.resolve-out.new.self) _ r.cycle c.requires.asks.1.knows c.requires.asks.1.owns c.requires.asks.1.same
-    c.requires.settled r.opened a.draws.adds.drawn.3 refl refl refl (frees_these _ _ _ r.freed (ap (λ (r : ManagedReplay). r.managed.heap) a.goes.state) refl) in
-    search rules
-
-pub settle_ended-requires-clause-freed : goal.settle_ended-requires-clause-freed
-settle_ended-requires-clause-freed c =
-    let r = c.resolve-out.ensures.resolves in
-    let a = r.adds in
-    let w = cycle_ended _ _ c.args.seat.now _ (as_side c.args.side.now) (as_side c.resolve-out.new.self) _ r.cycle c.requires.asks.1.knows c.requires.asks.1.owns c.requires.asks.1.same
-    c.requires.settled r.opened a.draws.adds.drawn.3 refl refl refl (frees_these _ _ _ r.freed (ap (λ (r : ManagedReplay). r.managed.heap) a.goes.state) refl) in
-    search rules
-
-pub settle_ended-requires-clause-ended : goal.settle_ended-requires-clause-ended
-settle_ended-requires-clause-ended c =
-    let r = c.resolve-out.ensures.resolves in
-    let a = r.adds in
-    let w = cycle_ended _ _ c.args.seat.now _ (as_side c.args.side.now) (as_side c.resolve-out.new.self) _ r.cycle c.requires.asks.1.knows c.requires.asks.1.owns c.requires.asks.1.same
-    c.requires.settled r.opened a.draws.adds.drawn.3 refl refl refl (frees_these _ _ _ r.freed (ap (λ (r : ManagedReplay). r.managed.heap) a.goes.state) refl) in
-    search rules
-
-pub settle_ended-requires-clause-outside : goal.settle_ended-requires-clause-outside
-settle_ended-requires-clause-outside c =
-    let r = c.resolve-out.ensures.resolves in
-    let a = r.adds in
-    let w = cycle_ended _ _ c.args.seat.now _ (as_side c.args.side.now) (as_side c.resolve-out.new.self) _ r.cycle c.requires.asks.1.knows c.requires.asks.1.owns c.requires.asks.1.same
-    c.requires.settled r.opened a.draws.adds.drawn.3 refl refl refl (frees_these _ _ _ r.freed (ap (λ (r : ManagedReplay). r.managed.heap) a.goes.state) refl) in
-    search rules
+    record { seat = search rules; agrees = search rules; freed = search rules; ended = search rules; outside = search rules }
 
 pub returns-clause-drew : goal.returns-clause-drew
 returns-clause-drew c =

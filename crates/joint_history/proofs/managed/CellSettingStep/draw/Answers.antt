@@ -29,7 +29,8 @@ weak-requires-clause-may c =
     let ks = knows_looked c.args.seat.now.view seat.view (as_side c.args.side.now) stays c.requires.asks.4.knows in
     let may : (aim : Option MNum) → ((m : MNum) → aim ≡ Some m → MaySetCell c.args.side.now.state (weak_op c.args.self.k c.args.self.v) m)
     → MayAppend c.args.order.now seat 0 c.args.self.caller (weak_op c.args.self.k c.args.self.v) aim =
-    λ aim. weak_may c.args.order.now seat (as_side c.args.side.now) c.args.self.caller c.args.self.k c.args.self.v aim c.requires.asks.0 c.requires.asks.1 (c.load_cell-word.ensures.seat.0 ∙ c.requires.asks.4.same)
+    λ aim. weak_may c.args.order.now seat (as_side c.args.side.now) c.args.self.caller c.args.self.k c.args.self.v aim c.requires.asks.0 c.requires.asks.1
+    (c.load_cell-word.ensures.seat.0 ∙ c.requires.asks.4.same)
     (ap (λ os. at false os 0) stays.owns ∙ c.requires.asks.4.owns) (ap (λ os. at false os (caller_line c.args.self.caller)) stays.owns ∙ c.requires.asks.4.pass)
     (settled_looked c.args.seat.now.view seat.view stays c.requires.settled) ks (omega (arith)) in
     record {

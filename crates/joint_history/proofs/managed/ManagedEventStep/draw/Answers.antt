@@ -20,8 +20,8 @@ step-requires-clause-may c = record {
 pub returns-clause-settled : goal.returns-clause-settled
 returns-clause-settled c =
     let a = c.in_ok-reply.ensures.adds in
-    let s = plain_event_settled _ _ c.args.seat.now _ c.args.side.now.state (step_made c.args.self.caller c.args.self.index c.args.self.op.now c.in_ok-reply.reply c.args.self.cites) nothing _ _ a.draws.adds.number
-    (step_is_plain c.args.self.caller c.args.self.op.now c.in_ok-reply.reply c.requires.asks.0) a.draws.adds.drawn.3 a.goes.lawful c.requires.settled in
+    let s = plain_event_settled _ _ c.args.seat.now _ c.args.side.now.state (step_made c.args.self.caller c.args.self.index c.args.self.op.now c.in_ok-reply.reply c.args.self.cites)
+    nothing _ _ a.draws.adds.number (step_is_plain c.args.self.caller c.args.self.op.now c.in_ok-reply.reply c.requires.asks.0) a.draws.adds.drawn.3 a.goes.lawful c.requires.settled in
     search rules
 
 pub returns-clause-drew : goal.returns-clause-drew

@@ -56,7 +56,8 @@ settle_taken-requires-clause-empty c =
     let a = c.in_ok-reply.ensures.adds in
     let seat = c.own_pin-pin.new.seat in
     let stays = c.own_pin-pin.ensures.stays in
-    let w = leaves_pin _ _ seat _ c.args.self.caller c.args.self.index c.args.self.v c.in_ok-reply.reply None [] a.draws.adds.number c.reader_of-reader.result c.requires.asks.0 c.reader_of-reader.ensures.number
+    let w = leaves_pin _ _ seat _ c.args.self.caller c.args.self.index c.args.self.v c.in_ok-reply.reply None
+    [] a.draws.adds.number c.reader_of-reader.result c.requires.asks.0 c.reader_of-reader.ensures.number
     (ap (λ os. at false os 0) stays.owns ∙ c.requires.asks.3.owns) (settled_looked c.args.seat.now.view seat.view stays c.requires.settled) a.draws.adds.drawn.3 in
     let z = w.empty in
     search rules
@@ -66,7 +67,8 @@ settle_taken-requires-clause-owes c =
     let a = c.in_ok-reply.ensures.adds in
     let seat = c.own_pin-pin.new.seat in
     let stays = c.own_pin-pin.ensures.stays in
-    let w = leaves_pin _ _ seat _ c.args.self.caller c.args.self.index c.args.self.v c.in_ok-reply.reply None [] a.draws.adds.number c.reader_of-reader.result c.requires.asks.0 c.reader_of-reader.ensures.number
+    let w = leaves_pin _ _ seat _ c.args.self.caller c.args.self.index c.args.self.v c.in_ok-reply.reply None
+    [] a.draws.adds.number c.reader_of-reader.result c.requires.asks.0 c.reader_of-reader.ensures.number
     (ap (λ os. at false os 0) stays.owns ∙ c.requires.asks.3.owns) (settled_looked c.args.seat.now.view seat.view stays c.requires.settled) a.draws.adds.drawn.3 in
     let z = w.owes in
     search rules
@@ -77,7 +79,8 @@ returns-clause-drew c =
     let seat = c.own_pin-pin.new.seat in
     let stays = c.own_pin-pin.ensures.stays in
     let pin = c.own_pin-pin.result in
-    let d = drew_managed _ _ seat c.take.new.draw.seat.now (as_side c.args.side.now) (as_side c.take.new.self) (step_made c.args.self.caller c.args.self.index (take_op c.args.self.v) c.in_ok-reply.reply None)
+    let d = drew_managed _ _ seat c.take.new.draw.seat.now (as_side c.args.side.now) (as_side c.take.new.self)
+    (step_made c.args.self.caller c.args.self.index (take_op c.args.self.v) c.in_ok-reply.reply None)
     (kept_pins (pin_given (thread_number c.args.self.caller) pin) nothing) a.draws.adds.number a.draws.adds.drawn.3 a.goes a.draws.adds.added
     (taken_told seat c.args.self.caller c.args.self.v c.reader_of-reader.result pin
     c.requires.asks.0 c.reader_of-reader.ensures.number (finds_same c.args.seat.now.view seat.view c.reader_of-reader.result pin stays.known c.own_pin-pin.ensures.pin)) _ a.draws.adds.drawn.2 in
@@ -90,7 +93,8 @@ returns-clause-drew c =
         stands = subst (λ n. PinsStand c.args.side.now.state.managed (pin_given n pin)) c.reader_of-reader.ensures.number
             (taken_stands c.args.seat.now.view (as_side c.args.side.now) c.reader_of-reader.result pin
             c.reader_of-reader.ensures.few.0 c.reader_of-reader.ensures.few.1 c.requires.asks.3.knows c.own_pin-pin.ensures.pin);
-        drew = drew_between managed_rules 0 c.args.order.now c.args.seat.now seat c.take.new.draw.seat.now c.settle_taken.new.seat (as_side c.args.side.now) (as_side c.take.new.self) _ _ before d after;
+        drew = drew_between managed_rules 0 c.args.order.now c.args.seat.now seat c.take.new.draw.seat.now c.settle_taken.new.seat
+            (as_side c.args.side.now) (as_side c.take.new.self) _ _ before d after;
       },
       tt,
     )

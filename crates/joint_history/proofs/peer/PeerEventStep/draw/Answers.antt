@@ -50,7 +50,8 @@ returns-then-is_mark-clause-drew c =
     )
 
 pub draw_step-requires-clause-step : goal.draw_step-requires-clause-step
-draw_step-requires-clause-step c = else_step c.args.self.caller c.args.self.op.now (sym c.slice_count.ensures ∙ none_from c.slice_count.result c.in_default.not-Some) c.if-is_mark.ensures c.requires.asks.0
+draw_step-requires-clause-step c = else_step c.args.self.caller c.args.self.op.now
+    (sym c.slice_count.ensures ∙ none_from c.slice_count.result c.in_default.not-Some) c.if-is_mark.ensures c.requires.asks.0
 
 pub draw_step-requires-clause-allowed : goal.draw_step-requires-clause-allowed
 draw_step-requires-clause-allowed c = else_allows c.args.side.now.state c.args.self.caller c.args.self.op.now c.args.self.cites
