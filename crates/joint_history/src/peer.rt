@@ -14,7 +14,7 @@ ghost use Rattle.joint_history.specs.PeerCalls.{AllowsCall, DrawsEvent, IsPeerCa
 ghost use Rattle.joint_history.specs.Steps.{MakesEvent};
 ghost use Rattle.seat_calls.specs.Passing.{MayAppend};
 
-use crate::peer_marks::{draw_mark, draw_slice, is_mark, slice_count};
+use crate::peer_marks::{is_mark, mark_by, slice_by, slice_count};
 use crate::steps::Step;
 use joint_model::{Op, Reply, Thread};
 use order_table::{Order, Role, Seat};
@@ -88,10 +88,12 @@ impl<'a> Step for PeerEvent<'a> {
         seat: &mut Seat,
     ) -> Result<(u64, Reply), AllocError> {
         if let Some(n) = slice_count(self.op) {
-            return draw_slice(side, order, seat, self.caller, self.index, n);
+            let mut drawing = seat_drawing!(order, seat, Role::Peer);
+            return slice_by(side, &mut drawing, self.caller, self.index, n);
         }
         if is_mark(self.op) {
-            return draw_mark(side, order, seat, self.caller, self.index, self.op);
+            let mut drawing = seat_drawing!(order, seat, Role::Peer);
+            return mark_by(side, &mut drawing, self.caller, self.index, self.op);
         }
         draw_step(
             side,

@@ -1,5 +1,5 @@
-// A begin, a slice or a sweep of a peer thread, drawn by the peer side's seat: one event each, between which the
-// thread's marking stays open.
+// A begin, a slice or a sweep of a peer thread, by a draw: one event each, between which the thread's marking stays
+// open.
 
 ghost use Rattle.std.specs.Prelude.{◌≡◌, ◌≤◌, None, IfOk, MatchBool, OnErr};
 ghost use Rattle.joint_machine.specs.declared.lines.Act.TheVariants as act;
@@ -16,9 +16,9 @@ ghost use Rattle.joint_history.specs.PeerCalls.{DrawsEvent, slice_count};
 ghost use Rattle.seat_calls.specs.Passing.{MayAppend};
 
 use joint_model::{Act, Op, Reply, Thread};
-use order_table::{Order, Role, Seat};
+use order_table::Role;
 use peer_heap::PeerSide;
-use seat_calls::{SeatDrawing, seat_drawing};
+use seat_calls::SeatDrawing;
 use std::alloc::AllocError;
 
 /// How many peers a slice may blacken. None where the event is no slice.
@@ -43,8 +43,8 @@ pub(crate) fn is_mark(op: &Op) -> bool
     }
 }
 
-// The side makes a slice by a draw, and answers the entry's number and the reply.
-fn slice_by(
+/// The side makes a slice by a draw, and answers the entry's number and the reply.
+pub(crate) fn slice_by(
     side: &mut PeerSide,
     drawing: &mut SeatDrawing<'_>,
     caller: Thread,
@@ -71,34 +71,8 @@ fn slice_by(
     Ok((drawing.last, reply))
 }
 
-/// The side draws a slice by the seat.
-pub(crate) fn draw_slice(
-    side: &mut PeerSide,
-    order: &Order,
-    seat: &mut Seat,
-    caller: Thread,
-    index: u32,
-    n: u32,
-) -> Result<(u64, Reply), AllocError>
-    requires thread { IsPeerThread caller }
-    requires count { (1 ≤ n) × (n ≤ 65535) }
-    requires takes { TakesPeer side.old.threads caller }
-    requires may { MayAppend order.now seat.old 1 caller (op.Line (act.Slice n)) None }
-    requires settled { Settled seat.old.view }
-    requires entries { line_known seat.old.view 1 ≡ side.old.entries }
-    ensures settled { Settled seat.new.view }
-    ensures drew { IfOk result (λ r. DrawsEvent order.now seat.old seat.new (seen side.old)
-        (seen side.new) (numbered r.0 (made_by caller index (op.Line (act.Slice n)) r.1 None))) }
-    ensures err { OnErr result (StaysSeated seat.old seat.new × (seen side.new ≡ seen side.old)) }
-    ensures reserve { side.new.reserve ≡ side.old.reserve }
-    ensures threads { side.new.threads ≡ side.old.threads }
-{
-    let mut drawing = seat_drawing!(order, seat, Role::Peer);
-    slice_by(side, &mut drawing, caller, index, n)
-}
-
-// The side makes a begin or a sweep by a draw, and answers the entry's number and the reply.
-fn mark_by(
+/// The side makes a begin or a sweep by a draw, and answers the entry's number and the reply.
+pub(crate) fn mark_by(
     side: &mut PeerSide,
     drawing: &mut SeatDrawing<'_>,
     caller: Thread,
@@ -123,30 +97,4 @@ fn mark_by(
 {
     let reply = side.mark_step(drawing, caller, index, op)?;
     Ok((drawing.last, reply))
-}
-
-/// The side draws a begin or a sweep by the seat.
-pub(crate) fn draw_mark(
-    side: &mut PeerSide,
-    order: &Order,
-    seat: &mut Seat,
-    caller: Thread,
-    index: u32,
-    op: &Op,
-) -> Result<(u64, Reply), AllocError>
-    requires thread { IsPeerThread caller }
-    requires mark { IsMarkEvent op.now }
-    requires takes { TakesPeer side.old.threads caller }
-    requires may { MayAppend order.now seat.old 1 caller op.now None }
-    requires settled { Settled seat.old.view }
-    requires entries { line_known seat.old.view 1 ≡ side.old.entries }
-    ensures settled { Settled seat.new.view }
-    ensures drew { IfOk result (λ r. DrawsEvent order.now seat.old seat.new (seen side.old)
-        (seen side.new) (numbered r.0 (made_by caller index op.now r.1 None))) }
-    ensures err { OnErr result (StaysSeated seat.old seat.new × (seen side.new ≡ seen side.old)) }
-    ensures reserve { side.new.reserve ≡ side.old.reserve }
-    ensures threads { side.new.threads ≡ side.old.threads }
-{
-    let mut drawing = seat_drawing!(order, seat, Role::Peer);
-    mark_by(side, &mut drawing, caller, index, op)
 }
