@@ -4,8 +4,6 @@
 ghost use Rattle.std.specs.Prelude.{Some};
 
 use crate::expecting::{SERIAL, words_of};
-use crate::rows::parts_of;
-use crate::rows_lines::ACTIVITY;
 use crate::runs::{GENERATED, GENERATED_SUMMARY};
 use bridge_program::bridge_main;
 use bridge_script::FreeTurn;
@@ -15,6 +13,7 @@ use std::process::Abort;
 use std::sync::Wait;
 use std::test::Fail;
 use std::thread::Threads;
+use worked_texts::{ACTIVITY, parts_of};
 
 // A source in memory that gives at most a hundred bytes a call.
 #[derive(Drop)]

@@ -21,30 +21,10 @@ mod processes;
 #[cfg(test)]
 mod rows;
 #[cfg(test)]
-mod rows_cell_read;
-#[cfg(test)]
 mod rows_checked;
-#[cfg(test)]
-mod rows_collected;
 #[cfg(test)]
 mod rows_compared;
 #[cfg(test)]
-mod rows_cycle_limit;
-#[cfg(test)]
-mod rows_cycles;
-#[cfg(test)]
-mod rows_lines;
-#[cfg(test)]
 mod rows_logged;
-#[cfg(test)]
-mod rows_many_leaves;
-#[cfg(test)]
-mod rows_read_and_dropped;
-#[cfg(test)]
-mod rows_read_and_stored;
-#[cfg(test)]
-mod rows_sliced;
-#[cfg(test)]
-mod rows_weakly_read;
 #[cfg(test)]
 mod runs;

@@ -2,7 +2,7 @@
 
 ghost use Rattle.std.specs.Prelude.{Some};
 
-use crate::expecting::{LINKED, LINKED_REPORT, SERIAL, USAGE, expect_text, words_of};
+use crate::expecting::{SERIAL, USAGE, expect_text, words_of};
 use bridge_program::{bridge_main, run_program};
 use bridge_script::FreeTurn;
 use byte_streams::{ByteSink, PlainSource};
@@ -14,6 +14,7 @@ use std::sync::Wait;
 use std::test::Fail;
 use std::thread::Threads;
 use std_streams::{StdSink, StdSource};
+use worked_texts::{LINKED, LINKED_REPORT};
 
 // A reader and writer that fails at each call.
 #[derive(Drop)]

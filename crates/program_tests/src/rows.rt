@@ -1,41 +1,15 @@
-// Worked scripts, each with its status and what is written for it. The rows stand by subject in files of their own.
+// Worked scripts, each with its status and what is written for it.
 
 use crate::expecting::{expect, expect_text};
-use crate::rows_cell_read::CELL_READ;
-use crate::rows_collected::COLLECTED;
-use crate::rows_cycle_limit::CYCLE_LIMIT;
-use crate::rows_cycles::CYCLES;
-use crate::rows_lines::{ACTIVITY, LINES};
-use crate::rows_many_leaves::MANY_LEAVES;
-use crate::rows_read_and_dropped::READ_AND_DROPPED;
-use crate::rows_read_and_stored::READ_AND_STORED;
-use crate::rows_sliced::{BEGUN, SLICED};
-use crate::rows_weakly_read::WEAKLY_READ;
 use byte_streams::ByteSink;
 use std::alloc::{AllocError, Global};
 use std::process::Abort;
 use std::sync::Wait;
 use std::test::Fail;
 use std::thread::Threads;
+use worked_texts::{SUBJECTS, parts_of, rows_of};
 
-/// The status, the script, and what is written, of a row without its `#`: a space, the status and a newline, the
-/// script, `=` and a newline, and what is written. None where the text is no row.
-pub fn parts_of(row: &[u8]) -> Option<(u8, &[u8], &[u8])> {
-    let at = row.iter().position(|b| *b == b'=')?;
-    if at > row.len() {
-        return None;
-    }
-    let [b' ', status, b'\n', script @ ..] = &row[..at] else {
-        return None;
-    };
-    let [_, b'\n', written @ ..] = &row[at..] else {
-        return None;
-    };
-    Some((status.saturating_sub(b'0'), script, written))
-}
-
-// Runs the script of each row, and compares the status and what is written. The rows stand behind one another, each
-// after its `#`.
+// Runs the script of each row, and compares the status and what is written.
 fn expect_rows<R: Threads + Wait + Sync + Abort>(
     rt: &R,
     alloc: Global,
@@ -56,18 +30,8 @@ fn expect_rows<R: Threads + Wait + Sync + Abort>(
 
 #[test]
 fn worked_scripts_are_run(rt: HostRuntime) -> Result<(), Fail> {
-    let alloc = rt.alloc();
-    expect_rows(&rt, alloc, CYCLES)?;
-    expect_rows(&rt, alloc, LINES)?;
-    expect_rows(&rt, alloc, ACTIVITY)?;
-    expect_rows(&rt, alloc, CYCLE_LIMIT)?;
-    expect_rows(&rt, alloc, MANY_LEAVES)?;
-    expect_rows(&rt, alloc, COLLECTED)?;
-    expect_rows(&rt, alloc, SLICED)?;
-    expect_rows(&rt, alloc, BEGUN)?;
-    expect_rows(&rt, alloc, WEAKLY_READ)?;
-    expect_rows(&rt, alloc, READ_AND_DROPPED)?;
-    expect_rows(&rt, alloc, READ_AND_STORED)?;
-    expect_rows(&rt, alloc, CELL_READ)?;
+    for subject in 0..SUBJECTS {
+        expect_rows(&rt, rt.alloc(), rows_of(subject))?;
+    }
     Ok(())
 }

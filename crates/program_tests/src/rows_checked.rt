@@ -1,8 +1,9 @@
 // Worked reports with what their histories are found to be, and texts that are no reports.
 
-use crate::expecting::{LINKED, LINKED_REPORT, SERIAL, THREADS, USAGE, expect, expect_text};
+use crate::expecting::{SERIAL, THREADS, USAGE, expect, expect_text};
 use byte_streams::ByteSink;
 use std::test::Fail;
+use worked_texts::{LINKED, LINKED_REPORT};
 
 // The command that judges a report.
 const CHECK: &[&str] = &["check"];

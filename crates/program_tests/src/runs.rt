@@ -1,9 +1,10 @@
 // The top call by worked examples: printed reports, and each status. What is compared stands in a table, which one loop
 // reads.
 
-use crate::expecting::{LINKED, LINKED_REPORT, SERIAL, THREADS, USAGE, expect, expect_text};
+use crate::expecting::{SERIAL, THREADS, USAGE, expect, expect_text};
 use byte_streams::ByteSink;
 use std::test::Fail;
+use worked_texts::{LINKED, LINKED_REPORT};
 
 /// The command that makes a script of four families, one of each shape, and runs its lines in order.
 pub const GENERATED: &[&str] = &["gen", "--seed", "0", "--size", "4", "--mode", "serial"];

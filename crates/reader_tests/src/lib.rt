@@ -13,14 +13,10 @@ mod answers;
 #[cfg(test)]
 mod comparing;
 #[cfg(test)]
-mod gap_reports;
-#[cfg(test)]
 mod pieces;
 #[cfg(test)]
 mod readings;
 #[cfg(test)]
 mod refusals;
-#[cfg(test)]
-mod worked_reports;
 #[cfg(test)]
 mod written_again;

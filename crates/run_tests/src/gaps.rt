@@ -3,7 +3,7 @@
 // Each whole history is judged entry by entry too.
 
 use crate::replays::replay;
-use crate::worked::history_of;
+use crate::worked::{history_of, lines_of};
 use byte_streams::ByteSink;
 use history_report::write_report;
 use joint_model::{Entry, History, Op, Thread};
@@ -389,17 +389,6 @@ const HELD_ROWS: [Row; 2] = [
     (DISPOSE, 1, 4, DISPOSED, ALL_PEERS_FREED),
     (DISPOSE, 5, 7, DISPOSED, KEPT),
 ];
-
-// How many lines there are.
-fn lines_of(text: &[u8]) -> u32 {
-    let mut lines = 0u32;
-    for byte in text {
-        if *byte == b'\n' {
-            lines = lines.wrapping_add(1);
-        }
-    }
-    lines
-}
 
 // The script with lines in a gap.
 fn script_at(alloc: Global, around: Around, lines: &[u8], gap: u16) -> Result<Vec<u8>, AllocError> {

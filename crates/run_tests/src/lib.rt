@@ -3,9 +3,9 @@
 // They stand in a crate of their own since they need the run of scripts and the joint machine both, and neither needs
 // the other. Nothing but tests stands here, and no other crate builds on it.
 //
-// Worked scripts are run in line order, and how many entries each makes is counted by the rules of the events. Drawn
-// scripts are run by a thread for each script thread, several at a time; each has another history whatever the draw,
-// and each is a run of the joint machine.
+// Worked scripts are run in line order, each of which makes as many entries as its worked report has. Drawn scripts are
+// run by a thread for each script thread, several at a time; each has another history whatever the draw, and each is a
+// run of the joint machine.
 //
 // Nothing is promised to anybody.
 #![tactic(auto)]

@@ -8,123 +8,7 @@ use std::alloc::{AllocError, Global};
 use std::process::Abort;
 use std::sync::Wait;
 use std::test::Fail;
-
-// A script, and how many entries the history of its run has.
-type Row = (&'static [u8], u64);
-
-const ROWS: [Row; 7] = [
-    (b"", 0),
-    // a cycle over both heaps, of which no object stays
-    (
-        b"m1 bridge a bridge 1 user 1
-m1 bridge b bridge 1 user 1
-m1 set a 0 b
-m1 pass a s0
-m1 pass b s1
-p1 load a s0
-p1 load b s1
-p1 set b 0 a
-p1 drop a
-p1 drop b
-p1 store s0 -
-p1 store s1 -
-m1 drop a
-m1 drop b
-c cycle
-",
-        29,
-    ),
-    // reads while a cycle is open, phase by phase
-    (
-        b"m1 bridge a bridge 0 user 0
-m1 weak k0 a
-m1 drop a
-c snap
-m1 read k0
-c contract
-c mirror
-c weaken
-c mark
-c sweep
-c restore
-m1 wait k0
-c resolve
-m1 read k0
-",
-        16,
-    ),
-    // a peer thread reads a weak name while its peer's object is a candidate
-    (
-        b"m1 bridge a bridge 0 user 0
-m1 pass a s0
-p1 load a s0
-p1 wglobal G0 a
-p1 drop a
-p1 store s0 -
-m1 drop a
-c snap
-p1 wread b G0
-c contract
-",
-        19,
-    ),
-    // an object gives its peer up, and other threads meet it anew
-    (
-        b"m1 bridge a bridge 1 user 2
-m1 pass a s0
-m1 dispose a
-m1 handle a
-m1 surface b s0
-m1 surface c s0
-m1 handle b
-m1 surface d s9
-",
-        14,
-    ),
-    // one cycle keeps its candidates, the next one frees them, and notices are taken
-    (
-        b"m1 bridge a bridge 3 user 2
-m1 pass a s0
-m1 bridge b bridge 1 user 0
-m1 set a 0 b
-m1 set b 0 a
-m1 new c plain 2
-m1 set a 1 c
-m1 bridge d leafbridge 0 framework 0
-m1 set c 0 d
-m1 bridge e leafbridge 0 framework 0
-m1 set c 1 e
-m1 store g0 e
-m1 weak k0 a
-m1 drop a
-m1 drop b
-m1 drop c
-m1 drop d
-m1 drop e
-c cycle
-p1 store s0 -
-c cycle
-m1 read k0
-c finalise 8
-",
-        52,
-    ),
-    // a peer thread's names, and its own markings
-    (
-        b"p1 new a 1
-p1 global G0 a
-p1 wglobal G1 a
-p1 drop a
-p1 collect
-p1 unglobal G0
-p1 collect
-p1 wread b G1
-p1 unglobal G1
-p1 unglobal G1
-",
-        12,
-    ),
-];
+use worked_texts::{SUBJECTS, parts_of, rows_of};
 
 // The history of a script's run.
 #[tactic(auto, using(script_runs::proofs::Runnable::can_run))]
@@ -147,19 +31,44 @@ pub(crate) fn history_of<R: Wait + Abort>(
     }
 }
 
-// Runs the script of a row, and has each entry judged.
-fn judge_row<R: Wait + Abort>(rt: &R, alloc: Global, row: &Row) -> Result<(), AllocError> {
-    let (text, entries) = row;
+/// How many lines there are.
+pub(crate) fn lines_of(text: &[u8]) -> u32 {
+    let mut lines = 0u32;
+    for byte in text {
+        if *byte == b'\n' {
+            lines = lines.wrapping_add(1);
+        }
+    }
+    lines
+}
+
+// Runs a script, and has each entry judged: as many as its report has lines before the last one.
+fn judge_script<R: Wait + Abort>(
+    rt: &R,
+    alloc: Global,
+    text: &[u8],
+    report: &[u8],
+) -> Result<(), AllocError> {
     let h = history_of(rt, alloc, text)?;
-    assert!(rt; h.len() == *entries, "{} entries", h.len());
+    let entries = lines_of(report).wrapping_sub(1) as u64;
+    assert!(rt; h.len() == entries, "{} entries", h.len());
     replay(rt, alloc, &h)
+}
+
+// Each row whose text is a script.
+fn judge_rows<R: Wait + Abort>(rt: &R, alloc: Global, rows: &[u8]) -> Result<(), AllocError> {
+    for row in rows.split(|b| *b == b'#') {
+        if let Some((0, text, report)) = parts_of(row) {
+            judge_script(rt, alloc, text, report)?;
+        }
+    }
+    Ok(())
 }
 
 #[test]
 fn a_finished_history_is_lawful_to_its_end(rt: HostRuntime) -> Result<(), Fail> {
-    let alloc = rt.alloc();
-    for row in &ROWS {
-        judge_row(&rt, alloc, row)?;
+    for subject in 0..SUBJECTS {
+        judge_rows(&rt, rt.alloc(), rows_of(subject))?;
     }
     Ok(())
 }

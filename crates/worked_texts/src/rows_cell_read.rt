@@ -1,7 +1,7 @@
-// Worked scripts: a peer is read by a weak name between two phases of a cycle, each time between two others.
+// Worked scripts: a weak cell is read between two phases of a cycle, each time between two others.
 
-/// Rows behind one another, as `rows.rt` reads them.
-pub const WEAKLY_READ: &[u8] = b"# 0
+/// Rows behind one another, as `parts_of` reads them.
+pub const CELL_READ: &[u8] = b"# 0
 m1 bridge a bridge 1 user 0
 m1 bridge b bridge 1 user 0
 m1 set a 0 b
@@ -14,7 +14,7 @@ p1 store s0 -
 m1 drop a
 m1 drop b
 c snap
-p1 wread b G0
+m1 read k0
 c contract
 c mirror
 c weaken
@@ -39,18 +39,18 @@ m1 read k0
 12 m1.10 drop a = ok
 13 m1.11 drop b = ok
 14 c.12 snap 1 = 2 freed -
-15 p1.13 wread b G0 = p1
+15 m1.13 read k0 = pending 1
 16 c.14 contract 1 = 2 sccs 1 xrefs
 17 c.15 mirror 1 = 1 refs @14
 18 c.16 weaken h1 = ok @14
 19 c.16 weaken h2 = ok @14
 20 c.17 begin = 1
-21 c.18 sweep = 1 freed -
-22 c.19 restore h1 = alive h4
-23 c.19 restore h2 = alive h5
+21 c.18 sweep = 1 freed p1 p2
+22 c.19 restore h1 = cleared
+23 c.19 restore h2 = cleared
 24 c.19 clear 1 = ok
-25 c.20 resolve 1 = freed - @24
-26 m1.21 read k0 = m2
+25 c.20 resolve 1 = freed m1 m2 @24
+26 m1.21 read k0 = gone
 end 27
 # 0
 m1 bridge a bridge 1 user 0
@@ -66,7 +66,7 @@ m1 drop a
 m1 drop b
 c snap
 c contract
-p1 wread b G0
+m1 read k0
 c mirror
 c weaken
 c mark
@@ -91,17 +91,17 @@ m1 read k0
 13 m1.11 drop b = ok
 14 c.12 snap 1 = 2 freed -
 15 c.13 contract 1 = 2 sccs 1 xrefs
-16 p1.14 wread b G0 = p1
+16 m1.14 read k0 = pending 1
 17 c.15 mirror 1 = 1 refs @14
 18 c.16 weaken h1 = ok @14
 19 c.16 weaken h2 = ok @14
 20 c.17 begin = 1
-21 c.18 sweep = 1 freed -
-22 c.19 restore h1 = alive h4
-23 c.19 restore h2 = alive h5
+21 c.18 sweep = 1 freed p1 p2
+22 c.19 restore h1 = cleared
+23 c.19 restore h2 = cleared
 24 c.19 clear 1 = ok
-25 c.20 resolve 1 = freed - @24
-26 m1.21 read k0 = m2
+25 c.20 resolve 1 = freed m1 m2 @24
+26 m1.21 read k0 = gone
 end 27
 # 0
 m1 bridge a bridge 1 user 0
@@ -118,7 +118,7 @@ m1 drop b
 c snap
 c contract
 c mirror
-p1 wread b G0
+m1 read k0
 c weaken
 c mark
 c sweep
@@ -143,16 +143,16 @@ m1 read k0
 14 c.12 snap 1 = 2 freed -
 15 c.13 contract 1 = 2 sccs 1 xrefs
 16 c.14 mirror 1 = 1 refs @14
-17 p1.15 wread b G0 = p1
+17 m1.15 read k0 = pending 1
 18 c.16 weaken h1 = ok @14
 19 c.16 weaken h2 = ok @14
 20 c.17 begin = 1
-21 c.18 sweep = 1 freed -
-22 c.19 restore h1 = alive h4
-23 c.19 restore h2 = alive h5
+21 c.18 sweep = 1 freed p1 p2
+22 c.19 restore h1 = cleared
+23 c.19 restore h2 = cleared
 24 c.19 clear 1 = ok
-25 c.20 resolve 1 = freed - @24
-26 m1.21 read k0 = m2
+25 c.20 resolve 1 = freed m1 m2 @24
+26 m1.21 read k0 = gone
 end 27
 # 0
 m1 bridge a bridge 1 user 0
@@ -170,7 +170,7 @@ c snap
 c contract
 c mirror
 c weaken
-p1 wread b G0
+m1 read k0
 c mark
 c sweep
 c restore
@@ -196,14 +196,14 @@ m1 read k0
 16 c.14 mirror 1 = 1 refs @14
 17 c.15 weaken h1 = ok @14
 18 c.15 weaken h2 = ok @14
-19 p1.16 wread b G0 = p1
+19 m1.16 read k0 = pending 1
 20 c.17 begin = 1
-21 c.18 sweep = 1 freed -
-22 c.19 restore h1 = alive h4
-23 c.19 restore h2 = alive h5
+21 c.18 sweep = 1 freed p1 p2
+22 c.19 restore h1 = cleared
+23 c.19 restore h2 = cleared
 24 c.19 clear 1 = ok
-25 c.20 resolve 1 = freed - @24
-26 m1.21 read k0 = m2
+25 c.20 resolve 1 = freed m1 m2 @24
+26 m1.21 read k0 = gone
 end 27
 # 0
 m1 bridge a bridge 1 user 0
@@ -222,7 +222,7 @@ c contract
 c mirror
 c weaken
 c mark
-p1 wread b G0
+m1 read k0
 c sweep
 c restore
 c resolve
@@ -248,13 +248,13 @@ m1 read k0
 17 c.15 weaken h1 = ok @14
 18 c.15 weaken h2 = ok @14
 19 c.16 begin = 1
-20 p1.17 wread b G0 = p1
-21 c.18 sweep = 1 freed -
-22 c.19 restore h1 = alive h4
-23 c.19 restore h2 = alive h5
+20 m1.17 read k0 = pending 1
+21 c.18 sweep = 1 freed p1 p2
+22 c.19 restore h1 = cleared
+23 c.19 restore h2 = cleared
 24 c.19 clear 1 = ok
-25 c.20 resolve 1 = freed - @24
-26 m1.21 read k0 = m2
+25 c.20 resolve 1 = freed m1 m2 @24
+26 m1.21 read k0 = gone
 end 27
 # 0
 m1 bridge a bridge 1 user 0
@@ -274,7 +274,7 @@ c mirror
 c weaken
 c mark
 c sweep
-p1 wread b G0
+m1 read k0
 c restore
 c resolve
 m1 read k0
@@ -300,7 +300,7 @@ m1 read k0
 18 c.15 weaken h2 = ok @14
 19 c.16 begin = 1
 20 c.17 sweep = 1 freed p1 p2
-21 p1.18 wread b G0 = gone
+21 m1.18 read k0 = pending 1
 22 c.19 restore h1 = cleared
 23 c.19 restore h2 = cleared
 24 c.19 clear 1 = ok
@@ -326,7 +326,7 @@ c weaken
 c mark
 c sweep
 c restore
-p1 wread b G0
+m1 read k0
 c resolve
 m1 read k0
 =
@@ -354,7 +354,7 @@ m1 read k0
 21 c.18 restore h1 = cleared
 22 c.18 restore h2 = cleared
 23 c.18 clear 1 = ok
-24 p1.19 wread b G0 = gone
+24 m1.19 read k0 = pending 1
 25 c.20 resolve 1 = freed m1 m2 @23
 26 m1.21 read k0 = gone
 end 27

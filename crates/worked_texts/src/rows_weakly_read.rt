@@ -1,7 +1,7 @@
-// Worked scripts: a peer is read by a weak name and stored between two phases of a cycle, each time between two others.
+// Worked scripts: a peer is read by a weak name between two phases of a cycle, each time between two others.
 
-/// Rows behind one another, as `rows.rt` reads them.
-pub const READ_AND_STORED: &[u8] = b"# 0
+/// Rows behind one another, as `parts_of` reads them.
+pub const WEAKLY_READ: &[u8] = b"# 0
 m1 bridge a bridge 1 user 0
 m1 bridge b bridge 1 user 0
 m1 set a 0 b
@@ -15,8 +15,6 @@ m1 drop a
 m1 drop b
 c snap
 p1 wread b G0
-p1 store s3 b
-p1 drop b
 c contract
 c mirror
 c weaken
@@ -42,20 +40,18 @@ m1 read k0
 13 m1.11 drop b = ok
 14 c.12 snap 1 = 2 freed -
 15 p1.13 wread b G0 = p1
-16 p1.14 store s3 b = ok
-17 p1.15 drop b = ok
-18 c.16 contract 1 = 2 sccs 1 xrefs
-19 c.17 mirror 1 = 1 refs @14
-20 c.18 weaken h1 = ok @14
-21 c.18 weaken h2 = ok @14
-22 c.19 begin = 1
-23 c.20 sweep = 1 freed -
-24 c.21 restore h1 = alive h4
-25 c.21 restore h2 = alive h5
-26 c.21 clear 1 = ok
-27 c.22 resolve 1 = freed - @26
-28 m1.23 read k0 = m2
-end 29
+16 c.14 contract 1 = 2 sccs 1 xrefs
+17 c.15 mirror 1 = 1 refs @14
+18 c.16 weaken h1 = ok @14
+19 c.16 weaken h2 = ok @14
+20 c.17 begin = 1
+21 c.18 sweep = 1 freed -
+22 c.19 restore h1 = alive h4
+23 c.19 restore h2 = alive h5
+24 c.19 clear 1 = ok
+25 c.20 resolve 1 = freed - @24
+26 m1.21 read k0 = m2
+end 27
 # 0
 m1 bridge a bridge 1 user 0
 m1 bridge b bridge 1 user 0
@@ -71,8 +67,6 @@ m1 drop b
 c snap
 c contract
 p1 wread b G0
-p1 store s3 b
-p1 drop b
 c mirror
 c weaken
 c mark
@@ -98,19 +92,17 @@ m1 read k0
 14 c.12 snap 1 = 2 freed -
 15 c.13 contract 1 = 2 sccs 1 xrefs
 16 p1.14 wread b G0 = p1
-17 p1.15 store s3 b = ok
-18 p1.16 drop b = ok
-19 c.17 mirror 1 = 1 refs @14
-20 c.18 weaken h1 = ok @14
-21 c.18 weaken h2 = ok @14
-22 c.19 begin = 1
-23 c.20 sweep = 1 freed -
-24 c.21 restore h1 = alive h4
-25 c.21 restore h2 = alive h5
-26 c.21 clear 1 = ok
-27 c.22 resolve 1 = freed - @26
-28 m1.23 read k0 = m2
-end 29
+17 c.15 mirror 1 = 1 refs @14
+18 c.16 weaken h1 = ok @14
+19 c.16 weaken h2 = ok @14
+20 c.17 begin = 1
+21 c.18 sweep = 1 freed -
+22 c.19 restore h1 = alive h4
+23 c.19 restore h2 = alive h5
+24 c.19 clear 1 = ok
+25 c.20 resolve 1 = freed - @24
+26 m1.21 read k0 = m2
+end 27
 # 0
 m1 bridge a bridge 1 user 0
 m1 bridge b bridge 1 user 0
@@ -127,8 +119,6 @@ c snap
 c contract
 c mirror
 p1 wread b G0
-p1 store s3 b
-p1 drop b
 c weaken
 c mark
 c sweep
@@ -154,18 +144,16 @@ m1 read k0
 15 c.13 contract 1 = 2 sccs 1 xrefs
 16 c.14 mirror 1 = 1 refs @14
 17 p1.15 wread b G0 = p1
-18 p1.16 store s3 b = ok
-19 p1.17 drop b = ok
-20 c.18 weaken h1 = ok @14
-21 c.18 weaken h2 = ok @14
-22 c.19 begin = 1
-23 c.20 sweep = 1 freed -
-24 c.21 restore h1 = alive h4
-25 c.21 restore h2 = alive h5
-26 c.21 clear 1 = ok
-27 c.22 resolve 1 = freed - @26
-28 m1.23 read k0 = m2
-end 29
+18 c.16 weaken h1 = ok @14
+19 c.16 weaken h2 = ok @14
+20 c.17 begin = 1
+21 c.18 sweep = 1 freed -
+22 c.19 restore h1 = alive h4
+23 c.19 restore h2 = alive h5
+24 c.19 clear 1 = ok
+25 c.20 resolve 1 = freed - @24
+26 m1.21 read k0 = m2
+end 27
 # 0
 m1 bridge a bridge 1 user 0
 m1 bridge b bridge 1 user 0
@@ -183,8 +171,6 @@ c contract
 c mirror
 c weaken
 p1 wread b G0
-p1 store s3 b
-p1 drop b
 c mark
 c sweep
 c restore
@@ -211,16 +197,14 @@ m1 read k0
 17 c.15 weaken h1 = ok @14
 18 c.15 weaken h2 = ok @14
 19 p1.16 wread b G0 = p1
-20 p1.17 store s3 b = ok
-21 p1.18 drop b = ok
-22 c.19 begin = 1
-23 c.20 sweep = 1 freed -
-24 c.21 restore h1 = alive h4
-25 c.21 restore h2 = alive h5
-26 c.21 clear 1 = ok
-27 c.22 resolve 1 = freed - @26
-28 m1.23 read k0 = m2
-end 29
+20 c.17 begin = 1
+21 c.18 sweep = 1 freed -
+22 c.19 restore h1 = alive h4
+23 c.19 restore h2 = alive h5
+24 c.19 clear 1 = ok
+25 c.20 resolve 1 = freed - @24
+26 m1.21 read k0 = m2
+end 27
 # 0
 m1 bridge a bridge 1 user 0
 m1 bridge b bridge 1 user 0
@@ -239,8 +223,6 @@ c mirror
 c weaken
 c mark
 p1 wread b G0
-p1 store s3 b
-p1 drop b
 c sweep
 c restore
 c resolve
@@ -267,15 +249,13 @@ m1 read k0
 18 c.15 weaken h2 = ok @14
 19 c.16 begin = 1
 20 p1.17 wread b G0 = p1
-21 p1.18 store s3 b = ok
-22 p1.19 drop b = ok
-23 c.20 sweep = 1 freed -
-24 c.21 restore h1 = alive h4
-25 c.21 restore h2 = alive h5
-26 c.21 clear 1 = ok
-27 c.22 resolve 1 = freed - @26
-28 m1.23 read k0 = m2
-end 29
+21 c.18 sweep = 1 freed -
+22 c.19 restore h1 = alive h4
+23 c.19 restore h2 = alive h5
+24 c.19 clear 1 = ok
+25 c.20 resolve 1 = freed - @24
+26 m1.21 read k0 = m2
+end 27
 # 0
 m1 bridge a bridge 1 user 0
 m1 bridge b bridge 1 user 0
@@ -295,8 +275,6 @@ c weaken
 c mark
 c sweep
 p1 wread b G0
-p1 store s3 b
-p1 drop b
 c restore
 c resolve
 m1 read k0
@@ -323,14 +301,12 @@ m1 read k0
 19 c.16 begin = 1
 20 c.17 sweep = 1 freed p1 p2
 21 p1.18 wread b G0 = gone
-22 p1.19 store s3 b = empty
-23 p1.20 drop b = ok
-24 c.21 restore h1 = cleared
-25 c.21 restore h2 = cleared
-26 c.21 clear 1 = ok
-27 c.22 resolve 1 = freed m1 m2 @26
-28 m1.23 read k0 = gone
-end 29
+22 c.19 restore h1 = cleared
+23 c.19 restore h2 = cleared
+24 c.19 clear 1 = ok
+25 c.20 resolve 1 = freed m1 m2 @24
+26 m1.21 read k0 = gone
+end 27
 # 0
 m1 bridge a bridge 1 user 0
 m1 bridge b bridge 1 user 0
@@ -351,8 +327,6 @@ c mark
 c sweep
 c restore
 p1 wread b G0
-p1 store s3 b
-p1 drop b
 c resolve
 m1 read k0
 =
@@ -381,9 +355,7 @@ m1 read k0
 22 c.18 restore h2 = cleared
 23 c.18 clear 1 = ok
 24 p1.19 wread b G0 = gone
-25 p1.20 store s3 b = empty
-26 p1.21 drop b = ok
-27 c.22 resolve 1 = freed m1 m2 @23
-28 m1.23 read k0 = gone
-end 29
+25 c.20 resolve 1 = freed m1 m2 @23
+26 m1.21 read k0 = gone
+end 27
 ";

@@ -1,6 +1,6 @@
 // Worked scripts: whole cycles over both heaps, with what threads do between their phases.
 
-/// Rows behind one another, as `rows.rt` reads them.
+/// Rows behind one another, as `parts_of` reads them.
 pub const CYCLES: &[u8] = b"# 0
 m1 bridge a bridge 1 user 1
 m1 bridge b bridge 1 user 1

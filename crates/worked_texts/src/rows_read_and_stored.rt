@@ -1,8 +1,7 @@
-// Worked scripts: a peer is read by a weak name and dropped again between two phases of a cycle, each time between two
-// others.
+// Worked scripts: a peer is read by a weak name and stored between two phases of a cycle, each time between two others.
 
-/// Rows behind one another, as `rows.rt` reads them.
-pub const READ_AND_DROPPED: &[u8] = b"# 0
+/// Rows behind one another, as `parts_of` reads them.
+pub const READ_AND_STORED: &[u8] = b"# 0
 m1 bridge a bridge 1 user 0
 m1 bridge b bridge 1 user 0
 m1 set a 0 b
@@ -16,6 +15,7 @@ m1 drop a
 m1 drop b
 c snap
 p1 wread b G0
+p1 store s3 b
 p1 drop b
 c contract
 c mirror
@@ -42,19 +42,20 @@ m1 read k0
 13 m1.11 drop b = ok
 14 c.12 snap 1 = 2 freed -
 15 p1.13 wread b G0 = p1
-16 p1.14 drop b = ok
-17 c.15 contract 1 = 2 sccs 1 xrefs
-18 c.16 mirror 1 = 1 refs @14
-19 c.17 weaken h1 = ok @14
-20 c.17 weaken h2 = ok @14
-21 c.18 begin = 1
-22 c.19 sweep = 1 freed p1 p2
-23 c.20 restore h1 = cleared
-24 c.20 restore h2 = cleared
-25 c.20 clear 1 = ok
-26 c.21 resolve 1 = freed m1 m2 @25
-27 m1.22 read k0 = gone
-end 28
+16 p1.14 store s3 b = ok
+17 p1.15 drop b = ok
+18 c.16 contract 1 = 2 sccs 1 xrefs
+19 c.17 mirror 1 = 1 refs @14
+20 c.18 weaken h1 = ok @14
+21 c.18 weaken h2 = ok @14
+22 c.19 begin = 1
+23 c.20 sweep = 1 freed -
+24 c.21 restore h1 = alive h4
+25 c.21 restore h2 = alive h5
+26 c.21 clear 1 = ok
+27 c.22 resolve 1 = freed - @26
+28 m1.23 read k0 = m2
+end 29
 # 0
 m1 bridge a bridge 1 user 0
 m1 bridge b bridge 1 user 0
@@ -70,6 +71,7 @@ m1 drop b
 c snap
 c contract
 p1 wread b G0
+p1 store s3 b
 p1 drop b
 c mirror
 c weaken
@@ -96,18 +98,19 @@ m1 read k0
 14 c.12 snap 1 = 2 freed -
 15 c.13 contract 1 = 2 sccs 1 xrefs
 16 p1.14 wread b G0 = p1
-17 p1.15 drop b = ok
-18 c.16 mirror 1 = 1 refs @14
-19 c.17 weaken h1 = ok @14
-20 c.17 weaken h2 = ok @14
-21 c.18 begin = 1
-22 c.19 sweep = 1 freed p1 p2
-23 c.20 restore h1 = cleared
-24 c.20 restore h2 = cleared
-25 c.20 clear 1 = ok
-26 c.21 resolve 1 = freed m1 m2 @25
-27 m1.22 read k0 = gone
-end 28
+17 p1.15 store s3 b = ok
+18 p1.16 drop b = ok
+19 c.17 mirror 1 = 1 refs @14
+20 c.18 weaken h1 = ok @14
+21 c.18 weaken h2 = ok @14
+22 c.19 begin = 1
+23 c.20 sweep = 1 freed -
+24 c.21 restore h1 = alive h4
+25 c.21 restore h2 = alive h5
+26 c.21 clear 1 = ok
+27 c.22 resolve 1 = freed - @26
+28 m1.23 read k0 = m2
+end 29
 # 0
 m1 bridge a bridge 1 user 0
 m1 bridge b bridge 1 user 0
@@ -124,6 +127,7 @@ c snap
 c contract
 c mirror
 p1 wread b G0
+p1 store s3 b
 p1 drop b
 c weaken
 c mark
@@ -150,17 +154,18 @@ m1 read k0
 15 c.13 contract 1 = 2 sccs 1 xrefs
 16 c.14 mirror 1 = 1 refs @14
 17 p1.15 wread b G0 = p1
-18 p1.16 drop b = ok
-19 c.17 weaken h1 = ok @14
-20 c.17 weaken h2 = ok @14
-21 c.18 begin = 1
-22 c.19 sweep = 1 freed p1 p2
-23 c.20 restore h1 = cleared
-24 c.20 restore h2 = cleared
-25 c.20 clear 1 = ok
-26 c.21 resolve 1 = freed m1 m2 @25
-27 m1.22 read k0 = gone
-end 28
+18 p1.16 store s3 b = ok
+19 p1.17 drop b = ok
+20 c.18 weaken h1 = ok @14
+21 c.18 weaken h2 = ok @14
+22 c.19 begin = 1
+23 c.20 sweep = 1 freed -
+24 c.21 restore h1 = alive h4
+25 c.21 restore h2 = alive h5
+26 c.21 clear 1 = ok
+27 c.22 resolve 1 = freed - @26
+28 m1.23 read k0 = m2
+end 29
 # 0
 m1 bridge a bridge 1 user 0
 m1 bridge b bridge 1 user 0
@@ -178,6 +183,7 @@ c contract
 c mirror
 c weaken
 p1 wread b G0
+p1 store s3 b
 p1 drop b
 c mark
 c sweep
@@ -205,15 +211,16 @@ m1 read k0
 17 c.15 weaken h1 = ok @14
 18 c.15 weaken h2 = ok @14
 19 p1.16 wread b G0 = p1
-20 p1.17 drop b = ok
-21 c.18 begin = 1
-22 c.19 sweep = 1 freed p1 p2
-23 c.20 restore h1 = cleared
-24 c.20 restore h2 = cleared
-25 c.20 clear 1 = ok
-26 c.21 resolve 1 = freed m1 m2 @25
-27 m1.22 read k0 = gone
-end 28
+20 p1.17 store s3 b = ok
+21 p1.18 drop b = ok
+22 c.19 begin = 1
+23 c.20 sweep = 1 freed -
+24 c.21 restore h1 = alive h4
+25 c.21 restore h2 = alive h5
+26 c.21 clear 1 = ok
+27 c.22 resolve 1 = freed - @26
+28 m1.23 read k0 = m2
+end 29
 # 0
 m1 bridge a bridge 1 user 0
 m1 bridge b bridge 1 user 0
@@ -232,6 +239,7 @@ c mirror
 c weaken
 c mark
 p1 wread b G0
+p1 store s3 b
 p1 drop b
 c sweep
 c restore
@@ -259,14 +267,15 @@ m1 read k0
 18 c.15 weaken h2 = ok @14
 19 c.16 begin = 1
 20 p1.17 wread b G0 = p1
-21 p1.18 drop b = ok
-22 c.19 sweep = 1 freed -
-23 c.20 restore h1 = alive h4
-24 c.20 restore h2 = alive h5
-25 c.20 clear 1 = ok
-26 c.21 resolve 1 = freed - @25
-27 m1.22 read k0 = m2
-end 28
+21 p1.18 store s3 b = ok
+22 p1.19 drop b = ok
+23 c.20 sweep = 1 freed -
+24 c.21 restore h1 = alive h4
+25 c.21 restore h2 = alive h5
+26 c.21 clear 1 = ok
+27 c.22 resolve 1 = freed - @26
+28 m1.23 read k0 = m2
+end 29
 # 0
 m1 bridge a bridge 1 user 0
 m1 bridge b bridge 1 user 0
@@ -286,6 +295,7 @@ c weaken
 c mark
 c sweep
 p1 wread b G0
+p1 store s3 b
 p1 drop b
 c restore
 c resolve
@@ -313,13 +323,14 @@ m1 read k0
 19 c.16 begin = 1
 20 c.17 sweep = 1 freed p1 p2
 21 p1.18 wread b G0 = gone
-22 p1.19 drop b = ok
-23 c.20 restore h1 = cleared
-24 c.20 restore h2 = cleared
-25 c.20 clear 1 = ok
-26 c.21 resolve 1 = freed m1 m2 @25
-27 m1.22 read k0 = gone
-end 28
+22 p1.19 store s3 b = empty
+23 p1.20 drop b = ok
+24 c.21 restore h1 = cleared
+25 c.21 restore h2 = cleared
+26 c.21 clear 1 = ok
+27 c.22 resolve 1 = freed m1 m2 @26
+28 m1.23 read k0 = gone
+end 29
 # 0
 m1 bridge a bridge 1 user 0
 m1 bridge b bridge 1 user 0
@@ -340,6 +351,7 @@ c mark
 c sweep
 c restore
 p1 wread b G0
+p1 store s3 b
 p1 drop b
 c resolve
 m1 read k0
@@ -369,8 +381,9 @@ m1 read k0
 22 c.18 restore h2 = cleared
 23 c.18 clear 1 = ok
 24 p1.19 wread b G0 = gone
-25 p1.20 drop b = ok
-26 c.21 resolve 1 = freed m1 m2 @23
-27 m1.22 read k0 = gone
-end 28
+25 p1.20 store s3 b = empty
+26 p1.21 drop b = ok
+27 c.22 resolve 1 = freed m1 m2 @23
+28 m1.23 read k0 = gone
+end 29
 ";

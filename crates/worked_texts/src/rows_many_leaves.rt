@@ -1,7 +1,7 @@
 // A worked script: three bridge objects lead to a circle of two plain objects, which leads to many others. The circle
 // is a heavy class, for which a temporary stands.
 
-/// Rows behind one another, as `rows.rt` reads them.
+/// Rows behind one another, as `parts_of` reads them.
 pub const MANY_LEAVES: &[u8] = b"# 0
 m1 new a plain 16
 m1 new b plain 16

@@ -1,7 +1,8 @@
-// Worked scripts: a weak cell is read between two phases of a cycle, each time between two others.
+// Worked scripts: a peer is read by a weak name and dropped again between two phases of a cycle, each time between two
+// others.
 
-/// Rows behind one another, as `rows.rt` reads them.
-pub const CELL_READ: &[u8] = b"# 0
+/// Rows behind one another, as `parts_of` reads them.
+pub const READ_AND_DROPPED: &[u8] = b"# 0
 m1 bridge a bridge 1 user 0
 m1 bridge b bridge 1 user 0
 m1 set a 0 b
@@ -14,7 +15,8 @@ p1 store s0 -
 m1 drop a
 m1 drop b
 c snap
-m1 read k0
+p1 wread b G0
+p1 drop b
 c contract
 c mirror
 c weaken
@@ -39,19 +41,20 @@ m1 read k0
 12 m1.10 drop a = ok
 13 m1.11 drop b = ok
 14 c.12 snap 1 = 2 freed -
-15 m1.13 read k0 = pending 1
-16 c.14 contract 1 = 2 sccs 1 xrefs
-17 c.15 mirror 1 = 1 refs @14
-18 c.16 weaken h1 = ok @14
-19 c.16 weaken h2 = ok @14
-20 c.17 begin = 1
-21 c.18 sweep = 1 freed p1 p2
-22 c.19 restore h1 = cleared
-23 c.19 restore h2 = cleared
-24 c.19 clear 1 = ok
-25 c.20 resolve 1 = freed m1 m2 @24
-26 m1.21 read k0 = gone
-end 27
+15 p1.13 wread b G0 = p1
+16 p1.14 drop b = ok
+17 c.15 contract 1 = 2 sccs 1 xrefs
+18 c.16 mirror 1 = 1 refs @14
+19 c.17 weaken h1 = ok @14
+20 c.17 weaken h2 = ok @14
+21 c.18 begin = 1
+22 c.19 sweep = 1 freed p1 p2
+23 c.20 restore h1 = cleared
+24 c.20 restore h2 = cleared
+25 c.20 clear 1 = ok
+26 c.21 resolve 1 = freed m1 m2 @25
+27 m1.22 read k0 = gone
+end 28
 # 0
 m1 bridge a bridge 1 user 0
 m1 bridge b bridge 1 user 0
@@ -66,7 +69,8 @@ m1 drop a
 m1 drop b
 c snap
 c contract
-m1 read k0
+p1 wread b G0
+p1 drop b
 c mirror
 c weaken
 c mark
@@ -91,18 +95,19 @@ m1 read k0
 13 m1.11 drop b = ok
 14 c.12 snap 1 = 2 freed -
 15 c.13 contract 1 = 2 sccs 1 xrefs
-16 m1.14 read k0 = pending 1
-17 c.15 mirror 1 = 1 refs @14
-18 c.16 weaken h1 = ok @14
-19 c.16 weaken h2 = ok @14
-20 c.17 begin = 1
-21 c.18 sweep = 1 freed p1 p2
-22 c.19 restore h1 = cleared
-23 c.19 restore h2 = cleared
-24 c.19 clear 1 = ok
-25 c.20 resolve 1 = freed m1 m2 @24
-26 m1.21 read k0 = gone
-end 27
+16 p1.14 wread b G0 = p1
+17 p1.15 drop b = ok
+18 c.16 mirror 1 = 1 refs @14
+19 c.17 weaken h1 = ok @14
+20 c.17 weaken h2 = ok @14
+21 c.18 begin = 1
+22 c.19 sweep = 1 freed p1 p2
+23 c.20 restore h1 = cleared
+24 c.20 restore h2 = cleared
+25 c.20 clear 1 = ok
+26 c.21 resolve 1 = freed m1 m2 @25
+27 m1.22 read k0 = gone
+end 28
 # 0
 m1 bridge a bridge 1 user 0
 m1 bridge b bridge 1 user 0
@@ -118,7 +123,8 @@ m1 drop b
 c snap
 c contract
 c mirror
-m1 read k0
+p1 wread b G0
+p1 drop b
 c weaken
 c mark
 c sweep
@@ -143,17 +149,18 @@ m1 read k0
 14 c.12 snap 1 = 2 freed -
 15 c.13 contract 1 = 2 sccs 1 xrefs
 16 c.14 mirror 1 = 1 refs @14
-17 m1.15 read k0 = pending 1
-18 c.16 weaken h1 = ok @14
-19 c.16 weaken h2 = ok @14
-20 c.17 begin = 1
-21 c.18 sweep = 1 freed p1 p2
-22 c.19 restore h1 = cleared
-23 c.19 restore h2 = cleared
-24 c.19 clear 1 = ok
-25 c.20 resolve 1 = freed m1 m2 @24
-26 m1.21 read k0 = gone
-end 27
+17 p1.15 wread b G0 = p1
+18 p1.16 drop b = ok
+19 c.17 weaken h1 = ok @14
+20 c.17 weaken h2 = ok @14
+21 c.18 begin = 1
+22 c.19 sweep = 1 freed p1 p2
+23 c.20 restore h1 = cleared
+24 c.20 restore h2 = cleared
+25 c.20 clear 1 = ok
+26 c.21 resolve 1 = freed m1 m2 @25
+27 m1.22 read k0 = gone
+end 28
 # 0
 m1 bridge a bridge 1 user 0
 m1 bridge b bridge 1 user 0
@@ -170,7 +177,8 @@ c snap
 c contract
 c mirror
 c weaken
-m1 read k0
+p1 wread b G0
+p1 drop b
 c mark
 c sweep
 c restore
@@ -196,15 +204,16 @@ m1 read k0
 16 c.14 mirror 1 = 1 refs @14
 17 c.15 weaken h1 = ok @14
 18 c.15 weaken h2 = ok @14
-19 m1.16 read k0 = pending 1
-20 c.17 begin = 1
-21 c.18 sweep = 1 freed p1 p2
-22 c.19 restore h1 = cleared
-23 c.19 restore h2 = cleared
-24 c.19 clear 1 = ok
-25 c.20 resolve 1 = freed m1 m2 @24
-26 m1.21 read k0 = gone
-end 27
+19 p1.16 wread b G0 = p1
+20 p1.17 drop b = ok
+21 c.18 begin = 1
+22 c.19 sweep = 1 freed p1 p2
+23 c.20 restore h1 = cleared
+24 c.20 restore h2 = cleared
+25 c.20 clear 1 = ok
+26 c.21 resolve 1 = freed m1 m2 @25
+27 m1.22 read k0 = gone
+end 28
 # 0
 m1 bridge a bridge 1 user 0
 m1 bridge b bridge 1 user 0
@@ -222,7 +231,8 @@ c contract
 c mirror
 c weaken
 c mark
-m1 read k0
+p1 wread b G0
+p1 drop b
 c sweep
 c restore
 c resolve
@@ -248,14 +258,15 @@ m1 read k0
 17 c.15 weaken h1 = ok @14
 18 c.15 weaken h2 = ok @14
 19 c.16 begin = 1
-20 m1.17 read k0 = pending 1
-21 c.18 sweep = 1 freed p1 p2
-22 c.19 restore h1 = cleared
-23 c.19 restore h2 = cleared
-24 c.19 clear 1 = ok
-25 c.20 resolve 1 = freed m1 m2 @24
-26 m1.21 read k0 = gone
-end 27
+20 p1.17 wread b G0 = p1
+21 p1.18 drop b = ok
+22 c.19 sweep = 1 freed -
+23 c.20 restore h1 = alive h4
+24 c.20 restore h2 = alive h5
+25 c.20 clear 1 = ok
+26 c.21 resolve 1 = freed - @25
+27 m1.22 read k0 = m2
+end 28
 # 0
 m1 bridge a bridge 1 user 0
 m1 bridge b bridge 1 user 0
@@ -274,7 +285,8 @@ c mirror
 c weaken
 c mark
 c sweep
-m1 read k0
+p1 wread b G0
+p1 drop b
 c restore
 c resolve
 m1 read k0
@@ -300,13 +312,14 @@ m1 read k0
 18 c.15 weaken h2 = ok @14
 19 c.16 begin = 1
 20 c.17 sweep = 1 freed p1 p2
-21 m1.18 read k0 = pending 1
-22 c.19 restore h1 = cleared
-23 c.19 restore h2 = cleared
-24 c.19 clear 1 = ok
-25 c.20 resolve 1 = freed m1 m2 @24
-26 m1.21 read k0 = gone
-end 27
+21 p1.18 wread b G0 = gone
+22 p1.19 drop b = ok
+23 c.20 restore h1 = cleared
+24 c.20 restore h2 = cleared
+25 c.20 clear 1 = ok
+26 c.21 resolve 1 = freed m1 m2 @25
+27 m1.22 read k0 = gone
+end 28
 # 0
 m1 bridge a bridge 1 user 0
 m1 bridge b bridge 1 user 0
@@ -326,7 +339,8 @@ c weaken
 c mark
 c sweep
 c restore
-m1 read k0
+p1 wread b G0
+p1 drop b
 c resolve
 m1 read k0
 =
@@ -354,8 +368,9 @@ m1 read k0
 21 c.18 restore h1 = cleared
 22 c.18 restore h2 = cleared
 23 c.18 clear 1 = ok
-24 m1.19 read k0 = pending 1
-25 c.20 resolve 1 = freed m1 m2 @23
-26 m1.21 read k0 = gone
-end 27
+24 p1.19 wread b G0 = gone
+25 p1.20 drop b = ok
+26 c.21 resolve 1 = freed m1 m2 @23
+27 m1.22 read k0 = gone
+end 28
 ";

@@ -1,6 +1,6 @@
 // A worked script: one that has more lines with a cycle than a script may have.
 
-/// Rows behind one another, as `rows.rt` reads them.
+/// Rows behind one another, as `parts_of` reads them.
 pub const CYCLE_LIMIT: &[u8] = b"# 3
 c cycle
 c cycle
