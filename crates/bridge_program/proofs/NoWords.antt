@@ -6,8 +6,8 @@ use Rattle.std.specs.declared.vec.IntoIter.{IntoIter}
 use Rattle.joint_machine.proofs.Members.{Contains-cons_cases, Contains-map_cases, Contains-nil}
 use Rattle.command_words.specs.declared.commands.Command.TheVariants as command
 use Rattle.command_words.specs.Commands.{generator_words, mode_text}
-use Rattle.bridge_program.specs.Ends.{words_told}
 use Rattle.bridge_program.specs.Top.{IsCommand}
+use Rattle.std_streams.specs.Words.{words_told}
 
 no_one : (w : List ℕ) → Contains ((w ∷ []) ∷ []) [] → ⊥
 no_one w c = ⊎_elim (λ (e : (w ∷ []) ≡ []). cc) (λ n. Contains-nil [] n) (Contains-cons_cases (w ∷ []) [] [] c)

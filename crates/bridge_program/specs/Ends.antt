@@ -1,18 +1,10 @@
 -- What the whole program promises: how it ends, by the arguments that it was given.
 -- Believed: the clauses of the program's top call rest on all that stands here.
-use Rattle.std.specs.Prelude.{◌≡◌, ◌⊎◌, ◌≤◌, ℕ, List, [], Option, Result, Ok, Err, map, drop, string_bytes}
+use Rattle.std.specs.Prelude.{◌≡◌, ◌⊎◌, ◌≤◌, ℕ, List, Option}
 use Rattle.std.specs.Io.KnownBytes.{Appends, Keeps}
-use Rattle.std.specs.Vec.Iter.{into_iter_items}
-use Rattle.std.specs.declared.string.String.{String}
-use Rattle.std.specs.declared.vec.IntoIter.{IntoIter}
 use Rattle.byte_streams.specs.Faults.{AppendsPart, Rose}
 use Rattle.bridge_program.specs.Top.{IsCommand, LacksMemory, MayAnswer, MayGenerate, ReadsInput, RefusalPut, ResultPut}
 use Rattle.bridge_program.specs.Top.{TextPut, UsagePut}
-
--- the words after the program's name, as bytes; none where the arguments couldn't be had as text
-abbrev pub words_told : {A Z E : Type 0} → Result (IntoIter (String A) Z) E → List (List ℕ)
-words_told (Ok given) = map string_bytes (drop 1 (into_iter_items given))
-words_told (Err e) = []
 
 -- how the program ends that was asked by these words: with the status, the bytes and the counts of faults that
 -- `bridge_main` promises; only that memory may be wanting before the words are judged

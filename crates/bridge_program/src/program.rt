@@ -1,21 +1,23 @@
 // The program around the top call: the words that it was given, and the exit code with which the process ends.
 
-ghost use Rattle.std.specs.Prelude.{◌≡◌, ◌≢◌, ◌⊎◌, IfOk, IfErr, IsOk, IsErr, map, string_bytes};
+ghost use Rattle.std.specs.Prelude.{◌≡◌, ◌≢◌, ◌⊎◌, IfErr};
 ghost use Rattle.std.specs.IoError.{error_kind};
 ghost use Rattle.std.specs.Process.{exit_status};
-ghost use Rattle.bridge_program.specs.Ends.{Ends, words_told};
+ghost use Rattle.bridge_program.specs.Ends.{Ends};
+ghost use Rattle.std_streams.specs.Words.{words_told};
 
 use crate::statuses::NO_MEMORY;
 use crate::top::bridge_main;
 use bridge_script::Turnstile;
 use byte_streams::{Sink, Source};
-use std::alloc::{AllocError, Global};
+use std::alloc::Global;
 use std::env::Args;
 use std::io;
 use std::io::ErrorKind;
 use std::process::ExitCode;
 use std::sync::Wait;
 use std::thread::Threads;
+use std_streams::words_of;
 
 /// Makes the top call for the words after the program's name, and answers the exit code of the process, which is the
 /// status of that call.
@@ -39,21 +41,5 @@ pub fn run_program<R: Threads + Wait + Sync, S: Source, K: Sink, T: Turnstile + 
     match words_of(alloc, args) {
         Ok(words) => ExitCode::from(bridge_main(rt, alloc, &words, src, out, turn)),
         Err(_) => ExitCode::from(NO_MEMORY),
-    }
-}
-
-// The words after the program's name; none where the arguments aren't text. Answers `AllocError` where there is no
-// memory for them.
-fn words_of(alloc: Global, args: io::Result<Args>) -> Result<Vec<String>, AllocError>
-    ensures words { IfOk result (λ words. map string_bytes words.items ≡ words_told args) }
-    ensures memory { IfErr args (λ e. error_kind e ≡ ErrorKind.OutOfMemory → IsErr result) }
-    ensures no_text { IfErr args (λ e. error_kind e ≢ ErrorKind.OutOfMemory → IsOk result) }
-{
-    match args {
-        Ok(args) => args.skip(1).collect(alloc),
-        Err(error) => match error.kind() {
-            ErrorKind::OutOfMemory => Err(AllocError),
-            _ => Ok(Vec::new(alloc)),
-        },
     }
 }

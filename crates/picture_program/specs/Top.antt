@@ -1,10 +1,6 @@
 -- What the top call does.
-use Rattle.std.specs.Prelude.{◌≡◌, ◌⊎◌, ℕ, ◌≤◌, List, [], Option, Result, Ok, Err, codes, drop}
-use Rattle.std.specs.Prelude.{map, string_bytes}
+use Rattle.std.specs.Prelude.{◌≡◌, ◌⊎◌, ℕ, ◌≤◌, List, Option, codes}
 use Rattle.std.specs.Io.KnownBytes.{Appends, Keeps}
-use Rattle.std.specs.Vec.Iter.{into_iter_items}
-use Rattle.std.specs.declared.string.String.{String}
-use Rattle.std.specs.declared.vec.IntoIter.{IntoIter}
 use Rattle.byte_streams.specs.Reading.{Took}
 use Rattle.byte_streams.specs.Faults.{AppendsPart, Rose}
 use Rattle.picture_program.specs.declared.drawing.Refusal.{Refusal}
@@ -58,11 +54,6 @@ pub record UsagePut (words : List (List ℕ)) (Put : List ℕ → Type 0) : Type
 abbrev pub TextPut : ℕ → List (List ℕ) → Option (List ℕ) → Option (List ℕ) → (List ℕ → Type 0) → Type 0
 TextPut most words left rest Put = UsagePut words Put
     ⊎ RefusalPut most words left rest Put ⊎ PicturePut most words left rest Put
-
--- the words after the program's name, as bytes; none where the arguments couldn't be had as text
-abbrev pub words_told : {A Z E : Type 0} → Result (IntoIter (String A) Z) E → List (List ℕ)
-words_told (Ok given) = map string_bytes (drop 1 (into_iter_items given))
-words_told (Err e) = []
 
 -- how the program ends that was asked by these words: with the status, the bytes and the counts of faults that the top
 -- call promises; only that memory may be wanting before the words are judged

@@ -1,17 +1,17 @@
 // The program around the top call: the words that it was given, and the exit code with which the process ends.
 
-ghost use Rattle.std.specs.Prelude.{◌≡◌, IfOk, map, string_bytes};
 ghost use Rattle.std.specs.Process.{exit_status};
-ghost use Rattle.picture_program.specs.Top.{Ends, words_told};
+ghost use Rattle.picture_program.specs.Top.{Ends};
+ghost use Rattle.std_streams.specs.Words.{words_told};
 
 use crate::statuses::NO_MEMORY;
 use crate::top::picture_main;
 use byte_streams::{Sink, Source};
-use std::alloc::{AllocError, Global};
+use std::alloc::Global;
 use std::env::Args;
 use std::io;
-use std::io::ErrorKind;
 use std::process::ExitCode;
+use std_streams::words_of;
 
 /// Makes the top call for the words after the program's name, and answers the exit code of the process, which is the
 /// status of that call.
@@ -30,18 +30,5 @@ pub fn run_program<S: Source, K: Sink>(
     match words_of(alloc, args) {
         Ok(words) => ExitCode::from(picture_main(alloc, &words, src, out)),
         Err(_) => ExitCode::from(NO_MEMORY),
-    }
-}
-
-// The words after the program's name; none where the arguments aren't text.
-fn words_of(alloc: Global, args: io::Result<Args>) -> Result<Vec<String>, AllocError>
-    ensures { IfOk result (λ words. map string_bytes words.items ≡ words_told args) }
-{
-    match args {
-        Ok(args) => args.skip(1).collect(alloc),
-        Err(error) => match error.kind() {
-            ErrorKind::OutOfMemory => Err(AllocError),
-            _ => Ok(Vec::new(alloc)),
-        },
     }
 }

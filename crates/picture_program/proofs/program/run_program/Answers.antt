@@ -6,7 +6,7 @@ use Rattle.picture_program.proofs.program.run_program.Goals as goal
 pub returns-in-Ok : goal.returns-in-Ok
 returns-in-Ok g c =
     let e = c.picture_main.ensures in
-    rw (c.from.ensures) (rw (sym c.in-Ok.ensures) (record {
+    rw (c.from.ensures) (rw (sym c.in-Ok.ensures.words) (record {
       ends = record {
         printed = e.printed;
         usage = e.usage;
