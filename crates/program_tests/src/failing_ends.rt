@@ -3,9 +3,8 @@
 
 ghost use Rattle.std.specs.Prelude.{Some};
 
-use crate::expecting::{SERIAL, words_of};
+use crate::expecting::{SERIAL, status_of};
 use crate::runs::{GENERATED, GENERATED_SUMMARY};
-use bridge_program::bridge_main;
 use bridge_script::FreeTurn;
 use byte_streams::{ByteSink, ByteSource, Failed, Source};
 use std::alloc::{AllocError, Global};
@@ -70,6 +69,13 @@ const OF_A_REFUSAL: [Ending; 5] = [
     (0, 10, 3, WHOLE),
 ];
 
+// The source of a text. Its call with that number fails, 0 for none.
+fn hundreds_of(alloc: Global, text: &[u8], read_fault: u32) -> Result<Hundreds, AllocError> {
+    let fails = [read_fault].to_vec(alloc)?;
+    let source = ByteSource::new(text.to_vec(alloc)?, fails);
+    Ok(Hundreds { source })
+}
+
 // Runs the command over the text with each of these ends, and compares the status and what is written.
 fn expect_endings<R: Threads + Wait + Sync + Abort>(
     rt: &R,
@@ -79,14 +85,11 @@ fn expect_endings<R: Threads + Wait + Sync + Abort>(
     due: &[u8],
     endings: &[Ending],
 ) -> Result<(), AllocError> {
-    let words = words_of(alloc, words)?;
     for (read_fault, write_fault, status, len) in endings {
-        let fails = [*read_fault].to_vec(alloc)?;
-        let mut source = Hundreds {
-            source: ByteSource::new(text.to_vec(alloc)?, fails),
-        };
-        let mut out = ByteSink::new(alloc, 7, [*write_fault].to_vec(alloc)?);
-        let found = bridge_main(rt, alloc, &words, &mut source, &mut out, &FreeTurn);
+        let fails = [*write_fault].to_vec(alloc)?;
+        let source = hundreds_of(alloc, text, *read_fault)?;
+        let mut out = ByteSink::new(alloc, 7, fails);
+        let found = status_of(rt, alloc, words, source, &mut out, &FreeTurn)?;
         let wanted = (*len).min(due.len());
         assert_eq!(rt; (found, out.bytes().len()), (*status, wanted));
         assert!(rt; due.starts_with(out.bytes()));

@@ -2,6 +2,7 @@
 
 use crate::expecting::{SERIAL, THREADS, expect};
 use byte_streams::ByteSink;
+use std::alloc::{AllocError, Global};
 use std::test::Fail;
 
 // The words, lines so many times, the status, and how the text that is written ends.
@@ -58,13 +59,19 @@ const LARGE_RUNS: [Repeated; 5] = [
     (THREADS, SIXTEEN, 1_250, 0, b"\nend 25000\n"),
 ];
 
+// Lines so many times.
+fn repeated(alloc: Global, lines: &[u8], often: usize) -> Result<Vec<u8>, AllocError> {
+    let mut text = Vec::new(alloc);
+    for _ in 0..often {
+        text.extend_from_slice(lines)?;
+    }
+    Ok(text)
+}
+
 #[test]
 fn large_scripts_are_run_to_their_end(rt: HostRuntime) -> Result<(), Fail> {
     for (words, lines, often, status, end) in &LARGE_RUNS {
-        let mut text = Vec::new(rt.alloc());
-        for _ in 0..*often {
-            text.extend_from_slice(lines)?;
-        }
+        let text = repeated(rt.alloc(), lines, *often)?;
         let mut out = ByteSink::new(rt.alloc(), 4096, Vec::new(rt.alloc()));
         expect(&rt, rt.alloc(), words, &text, 0, &mut out, *status)?;
         assert!(rt; out.bytes().ends_with(end));

@@ -1,9 +1,7 @@
 // Two threads of a run that wait for each other at a turnstile.
 
-use crate::expecting::{THREADS, words_of};
-use bridge_program::bridge_main;
+use crate::expecting::{THREADS, written_at};
 use bridge_script::Turnstile;
-use byte_streams::{ByteSink, PlainSource};
 use joint_model::Thread;
 use std::sync::atomic::{AtomicU64, Ordering};
 use std::test::Fail;
@@ -52,15 +50,12 @@ fn two_threads_meet(rt: HostRuntime) -> Result<(), Fail> {
             peer: AtomicU64::new(0),
             missed: AtomicU64::new(0),
         };
-        let words = words_of(alloc, words)?;
-        let mut source = PlainSource::new(text.to_vec(alloc)?);
-        let mut out = ByteSink::new(alloc, 100, Vec::new(alloc));
-        let status = bridge_main(&rt, alloc, &words, &mut source, &mut out, &meeting);
+        let out = written_at(&rt, alloc, words, text, &meeting)?;
         let missed = meeting.missed.load(Ordering::SeqCst);
         // (a run that never comes to the turnstile misses nobody)
         let managed = meeting.managed.load(Ordering::SeqCst);
         let peer = meeting.peer.load(Ordering::SeqCst);
-        assert!(rt; status == 0 && missed == 0 && managed == 1 && peer == 1);
+        assert!(rt; missed == 0 && managed == 1 && peer == 1);
         assert!(rt; out.bytes().ends_with(end));
     }
     Ok(())
@@ -76,19 +71,16 @@ struct Passes {
 
 impl Turnstile for Passes {
     fn pass(&self, thread: Thread, line: u32) {
-        let (own, before) = match (thread, line) {
-            (Thread::M(1), 1) => (1, 0),
-            (Thread::P(1), 2) => (2, 0),
-            (Thread::C, 3) => (4, 0),
-            (Thread::M(1), 4) => (8, 1),
-            (Thread::C, 5) => (16, 4),
-            _ => {
-                self.wrong.store(1, Ordering::SeqCst);
-                return;
-            }
+        let (due, own, before) = match line {
+            1 => (Thread::M(1), 1, 0),
+            2 => (Thread::P(1), 2, 0),
+            3 => (Thread::C, 4, 0),
+            4 => (Thread::M(1), 8, 1),
+            5 => (Thread::C, 16, 4),
+            _ => (Thread::C, 32, 32),
         };
         let seen = self.seen.fetch_or(own, Ordering::SeqCst);
-        if seen & own != 0 || seen & before != before {
+        if thread != due || seen & own != 0 || seen & before != before {
             self.wrong.store(1, Ordering::SeqCst);
         }
     }
@@ -96,20 +88,15 @@ impl Turnstile for Passes {
 
 #[test]
 fn each_line_has_its_turn(rt: HostRuntime) -> Result<(), Fail> {
-    let alloc = rt.alloc();
     let passes = Passes {
         seen: AtomicU64::new(0),
         wrong: AtomicU64::new(0),
     };
-    let words = words_of(alloc, THREADS)?;
-    let mut source = PlainSource::new(
-        b"m1 drop a\np1 drop a\nc snap\nm1 drop b\nc contract\n".to_vec(alloc)?,
-    );
-    let mut out = ByteSink::new(alloc, 100, Vec::new(alloc));
-    let status = bridge_main(&rt, alloc, &words, &mut source, &mut out, &passes);
+    let text = b"m1 drop a\np1 drop a\nc snap\nm1 drop b\nc contract\n";
+    let _ = written_at(&rt, rt.alloc(), THREADS, text, &passes)?;
     let seen = passes.seen.load(Ordering::SeqCst);
     let wrong = passes.wrong.load(Ordering::SeqCst);
-    assert!(rt; status == 0 && seen == 31 && wrong == 0);
+    assert!(rt; seen == 31 && wrong == 0);
     Ok(())
 }
 
@@ -139,16 +126,13 @@ impl Turnstile for PeerFirst {
 
 #[test]
 fn a_turn_comes_before_its_line(rt: HostRuntime) -> Result<(), Fail> {
-    let alloc = rt.alloc();
     let turn = PeerFirst {
         managed: AtomicU64::new(0),
         peer: AtomicU64::new(0),
     };
-    let words = words_of(alloc, THREADS)?;
-    let mut source = PlainSource::new(b"m1 new a plain 0\np1 new a 0\np1 drop a\n".to_vec(alloc)?);
-    let mut out = ByteSink::new(alloc, 100, Vec::new(alloc));
-    let status = bridge_main(&rt, alloc, &words, &mut source, &mut out, &turn);
-    assert!(rt; status == 0 && out.bytes().starts_with(b"0 p1.2 new a 0 = p1\n"));
+    let text = b"m1 new a plain 0\np1 new a 0\np1 drop a\n";
+    let out = written_at(&rt, rt.alloc(), THREADS, text, &turn)?;
+    assert!(rt; out.bytes().starts_with(b"0 p1.2 new a 0 = p1\n"));
     Ok(())
 }
 
@@ -193,15 +177,11 @@ const HANDED_ENDS: [&[u8]; 2] = [
 
 #[test]
 fn what_is_handed_over_arrives(rt: HostRuntime) -> Result<(), Fail> {
-    let alloc = rt.alloc();
     let turn = AfterTwoLines {
         managed: AtomicU64::new(0),
     };
-    let words = words_of(alloc, THREADS)?;
-    let mut source = PlainSource::new(HANDED.to_vec(alloc)?);
-    let mut out = ByteSink::new(alloc, 100, Vec::new(alloc));
-    let status = bridge_main(&rt, alloc, &words, &mut source, &mut out, &turn);
-    assert!(rt; status == 0 && out.bytes().starts_with(HANDED_START));
+    let out = written_at(&rt, rt.alloc(), THREADS, HANDED, &turn)?;
+    assert!(rt; out.bytes().starts_with(HANDED_START));
     let end = &out.bytes()[HANDED_START.len().min(out.bytes().len())..];
     assert!(rt; end == HANDED_ENDS[0] || end == HANDED_ENDS[1]);
     Ok(())

@@ -2,12 +2,12 @@
 
 ghost use Rattle.std.specs.Prelude.{Some};
 
-use crate::expecting::{SERIAL, USAGE, expect_text, words_of};
-use bridge_program::{bridge_main, run_program};
+use crate::expecting::{SERIAL, USAGE, expect_text, status_of};
+use bridge_program::run_program;
 use bridge_script::FreeTurn;
 use byte_streams::{ByteSink, PlainSource};
 use std::alloc::{AllocError, Global};
-use std::env::{Env, FillError};
+use std::env::{Args, Env, FillError};
 use std::io;
 use std::process::ExitCode;
 use std::sync::Wait;
@@ -79,10 +79,15 @@ fn status_over<R: Threads + Wait + Sync, I: io::Read + Drop, O: io::Write + Drop
     reader: I,
     writer: O,
 ) -> Result<u8, AllocError> {
-    let words = words_of(alloc, SERIAL)?;
-    let mut source = StdSource::new(reader);
     let mut out = StdSink::new(writer);
-    Ok(bridge_main(rt, alloc, &words, &mut source, &mut out, &FreeTurn))
+    status_of(
+        rt,
+        alloc,
+        SERIAL,
+        StdSource::new(reader),
+        &mut out,
+        &FreeTurn,
+    )
 }
 
 #[test]
@@ -130,6 +135,18 @@ impl Env for GivenArgs<'_> {
     }
 }
 
+// The exit code of a process with these arguments and this input.
+fn exit_code_of<R: Threads + Wait + Sync>(
+    rt: &R,
+    alloc: Global,
+    args: io::Result<Args>,
+    text: Vec<u8>,
+    out: &mut ByteSink,
+) -> ExitCode {
+    let mut source = PlainSource::new(text);
+    run_program(rt, alloc, args, &mut source, out, &FreeTurn)
+}
+
 // The arguments of a process, its input, the exit code, and what is written.
 type Process = ([&'static [u8]; 2], &'static [u8], u8, &'static [u8]);
 
@@ -144,17 +161,16 @@ const PROCESSES: [Process; 4] = [
 fn the_exit_code_is_the_status_for_the_words_that_were_given(rt: HostRuntime) -> Result<(), Fail> {
     let alloc = rt.alloc();
     for (given, text, wanted, written) in &PROCESSES {
+        let text = text.to_vec(alloc)?;
         let args = std::env::args(&(GivenArgs { args: given }, alloc));
-        let mut source = PlainSource::new(text.to_vec(alloc)?);
         let mut out = ByteSink::new(alloc, 100, Vec::new(alloc));
-        let code = run_program(&rt, alloc, args, &mut source, &mut out, &FreeTurn);
+        let code = exit_code_of(&rt, alloc, args, text, &mut out);
         assert!(rt; code == ExitCode::from(*wanted));
         expect_text(&rt, out.bytes(), written);
     }
-    let mut source = PlainSource::new(Vec::new(alloc));
     let mut out = ByteSink::new(alloc, 100, Vec::new(alloc));
     let full = Err(io::Error::from(io::ErrorKind::OutOfMemory));
-    let code = run_program(&rt, alloc, full, &mut source, &mut out, &FreeTurn);
+    let code = exit_code_of(&rt, alloc, full, Vec::new(alloc), &mut out);
     assert!(rt; code == ExitCode::from(5) && out.bytes().is_empty());
     Ok(())
 }

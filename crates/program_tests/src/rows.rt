@@ -1,6 +1,6 @@
 // Worked scripts, each with its status and what is written for it.
 
-use crate::expecting::{expect, expect_text};
+use crate::expecting::{SERIAL, expect, expect_text};
 use byte_streams::ByteSink;
 use std::alloc::{AllocError, Global};
 use std::process::Abort;
@@ -22,7 +22,7 @@ fn expect_rows<R: Threads + Wait + Sync + Abort>(
             continue;
         };
         let mut out = ByteSink::new(alloc, 4096, Vec::new(alloc));
-        expect(rt, alloc, &["serial"], script, 0, &mut out, wanted)?;
+        expect(rt, alloc, SERIAL, script, 0, &mut out, wanted)?;
         expect_text(rt, out.bytes(), written);
     }
     Ok(())

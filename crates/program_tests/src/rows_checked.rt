@@ -1,7 +1,7 @@
 // Worked reports with what their histories are found to be, and texts that are no reports.
 
-use crate::expecting::{SERIAL, THREADS, USAGE, expect, expect_text};
-use byte_streams::ByteSink;
+use crate::expecting::{Run, SERIAL, THREADS, USAGE, expect_runs, expect_text, written_at};
+use bridge_script::FreeTurn;
 use std::test::Fail;
 use worked_texts::{LINKED, LINKED_REPORT};
 
@@ -108,17 +108,6 @@ const CUT: &[u8] = b"0 m1.1 make user 1 = p1 h1
 end 26
 ";
 
-// The words, the text, the number of the source's call that fails and of the sink's, 0 for none; and the status and
-// what is written. A sink of which a call fails takes one byte a call.
-type Run = (
-    &'static [&'static str],
-    &'static [u8],
-    u32,
-    u32,
-    u8,
-    &'static [u8],
-);
-
 const RUNS: [Run; 19] = [
     (CHECK, b"end 0\n", 0, 0, 0, b"legal 0\n"),
     (CHECK, LINKED_REPORT, 0, 0, 0, b"legal 25\n"),
@@ -153,13 +142,7 @@ const RUNS: [Run; 19] = [
 
 #[test]
 fn reports_are_judged(rt: HostRuntime) -> Result<(), Fail> {
-    for (words, text, read_fault, write_fault, status, written) in &RUNS {
-        let most = if *write_fault == 0 { 7 } else { 1 };
-        let fails = [*write_fault].to_vec(rt.alloc())?;
-        let mut out = ByteSink::new(rt.alloc(), most, fails);
-        expect(&rt, rt.alloc(), words, text, *read_fault, &mut out, *status)?;
-        expect_text(&rt, out.bytes(), written);
-    }
+    expect_runs(&rt, rt.alloc(), RUNS.as_slice())?;
     Ok(())
 }
 
@@ -167,10 +150,8 @@ fn reports_are_judged(rt: HostRuntime) -> Result<(), Fail> {
 #[test]
 fn a_runs_own_report_is_legal(rt: HostRuntime) -> Result<(), Fail> {
     for words in [SERIAL, THREADS] {
-        let mut report = ByteSink::new(rt.alloc(), 7, [0].to_vec(rt.alloc())?);
-        expect(&rt, rt.alloc(), words, LINKED, 0, &mut report, 0)?;
-        let mut out = ByteSink::new(rt.alloc(), 7, [0].to_vec(rt.alloc())?);
-        expect(&rt, rt.alloc(), CHECK, report.bytes(), 0, &mut out, 0)?;
+        let report = written_at(&rt, rt.alloc(), words, LINKED, &FreeTurn)?;
+        let out = written_at(&rt, rt.alloc(), CHECK, report.bytes(), &FreeTurn)?;
         expect_text(&rt, out.bytes(), b"legal 25\n");
     }
     Ok(())

@@ -1,30 +1,13 @@
 // Worked scripts with the listings of their cycles, and a sink that fails in the midst of one.
 
-use crate::expecting::{expect, expect_text};
-use byte_streams::ByteSink;
+use crate::expecting::{Run, expect_runs};
 use std::test::Fail;
+use worked_texts::{CYCLES, MANY_LEAVES};
 
 // The command.
 const COMPARE: &[&str] = &["compare"];
 
-// A cycle through both heaps: a managed edge one way, a peer edge back.
-const CROSSED: &[u8] = b"m1 bridge a bridge 1 user 1
-m1 bridge b bridge 1 user 1
-m1 set a 0 b
-m1 pass a s0
-m1 pass b s1
-p1 load a s0
-p1 load b s1
-p1 set b 0 a
-p1 drop a
-p1 drop b
-p1 store s0 -
-p1 store s1 -
-m1 drop a
-m1 drop b
-c cycle
-";
-
+// A cycle through both heaps, a managed edge one way and a peer edge back: the first script of `CYCLES`.
 const CROSSED_LISTING: &[u8] = b"cycle 1
 scc 0 m1
 scc 1 m2
@@ -32,63 +15,8 @@ xref 0 1
 end 1
 ";
 
-// Two plain objects in a ring, which three bridge objects lead into and which lead to twenty.
-const MEETING: &[u8] = b"m1 new a plain 16
-m1 new b plain 16
-m1 set a 0 b
-m1 set b 0 a
-m1 bridge c leafbridge 0 framework 0
-m1 set a 1 c
-m1 bridge c leafbridge 0 framework 0
-m1 set a 2 c
-m1 bridge c leafbridge 0 framework 0
-m1 set a 3 c
-m1 bridge c leafbridge 0 framework 0
-m1 set a 4 c
-m1 bridge c leafbridge 0 framework 0
-m1 set a 5 c
-m1 bridge c leafbridge 0 framework 0
-m1 set a 6 c
-m1 bridge c leafbridge 0 framework 0
-m1 set a 7 c
-m1 bridge c leafbridge 0 framework 0
-m1 set a 8 c
-m1 bridge c leafbridge 0 framework 0
-m1 set a 9 c
-m1 bridge c leafbridge 0 framework 0
-m1 set a 10 c
-m1 bridge c leafbridge 0 framework 0
-m1 set b 1 c
-m1 bridge c leafbridge 0 framework 0
-m1 set b 2 c
-m1 bridge c leafbridge 0 framework 0
-m1 set b 3 c
-m1 bridge c leafbridge 0 framework 0
-m1 set b 4 c
-m1 bridge c leafbridge 0 framework 0
-m1 set b 5 c
-m1 bridge c leafbridge 0 framework 0
-m1 set b 6 c
-m1 bridge c leafbridge 0 framework 0
-m1 set b 7 c
-m1 bridge c leafbridge 0 framework 0
-m1 set b 8 c
-m1 bridge c leafbridge 0 framework 0
-m1 set b 9 c
-m1 bridge c leafbridge 0 framework 0
-m1 set b 10 c
-m1 bridge c bridge 1 user 0
-m1 set c 0 a
-m1 bridge c bridge 1 user 0
-m1 set c 0 a
-m1 bridge c bridge 1 user 0
-m1 set c 0 a
-m1 drop a
-m1 drop b
-m1 drop c
-c cycle
-";
-
+// Two plain objects in a ring, which three bridge objects lead into and which lead to twenty: the script of
+// `MANY_LEAVES`.
 const MEETING_LISTING: &[u8] = b"cycle 1
 scc 0 m3
 scc 1 m4
@@ -165,29 +93,28 @@ xref 0 1
 end 2
 ";
 
-// The script, the number of the source's call that fails and of the sink's, 0 for none; and the status and what is
-// written. The sink takes so many bytes a call.
-type Listed = (&'static [u8], u32, u32, u8, &'static [u8]);
+const CROSSED_RUN: [Run; 1] = [(COMPARE, CYCLES, 0, 0, 0, CROSSED_LISTING)];
 
-const LISTED: [Listed; 8] = [
-    (CROSSED, 0, 0, 0, CROSSED_LISTING),
-    (MEETING, 0, 0, 0, MEETING_LISTING),
-    (b"", 0, 0, 0, b"end 0\n"),
-    (TWICE, 0, 0, 0, TWICE_LISTING),
-    (TWICE, 1, 0, 2, b""),
-    (b"m1 jump a\n", 0, 0, 3, b"line 1: cause 1 unknown\n"),
-    (TWICE, 0, 1, 4, b""),
-    (TWICE, 0, 9, 4, b"cycle 1\n"),
+const RUNS: [Run; 7] = [
+    (COMPARE, MANY_LEAVES, 0, 0, 0, MEETING_LISTING),
+    (COMPARE, b"", 0, 0, 0, b"end 0\n"),
+    (COMPARE, TWICE, 0, 0, 0, TWICE_LISTING),
+    (COMPARE, TWICE, 1, 0, 2, b""),
+    (
+        COMPARE,
+        b"m1 jump a\n",
+        0,
+        0,
+        3,
+        b"line 1: cause 1 unknown\n",
+    ),
+    (COMPARE, TWICE, 0, 1, 4, b""),
+    (COMPARE, TWICE, 0, 9, 4, b"cycle 1\n"),
 ];
 
 #[test]
 fn cycles_are_listed(rt: HostRuntime) -> Result<(), Fail> {
-    let alloc = rt.alloc();
-    for (script, read_fault, write_fault, status, written) in &LISTED {
-        let most = if *write_fault == 0 { 4096 } else { 1 };
-        let mut out = ByteSink::new(alloc, most, [*write_fault].to_vec(alloc)?);
-        expect(&rt, alloc, COMPARE, script, *read_fault, &mut out, *status)?;
-        expect_text(&rt, out.bytes(), written);
-    }
+    expect_runs(&rt, rt.alloc(), CROSSED_RUN.as_slice())?;
+    expect_runs(&rt, rt.alloc(), RUNS.as_slice())?;
     Ok(())
 }

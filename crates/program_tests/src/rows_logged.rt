@@ -1,7 +1,6 @@
 // Worked scripts with their reference logs, worked logs with what they never release, and logs that are none.
 
-use crate::expecting::{USAGE, expect, expect_text};
-use byte_streams::ByteSink;
+use crate::expecting::{Run, USAGE, expect_runs};
 use std::test::Fail;
 
 // The command that writes the log of a script's run.
@@ -29,17 +28,6 @@ const REPLACED_LOG: &[u8] = b"+g+ h1 p1 grefc 1 gwrefc 0 @0
 -w- h1 p1 grefc 1 gwrefc 0 @13
 end 5
 ";
-
-// The words, the text, the number of the source's call that fails and of the sink's, 0 for none; and the status and
-// what is written. A sink of which a call fails takes one byte a call.
-type Run = (
-    &'static [&'static str],
-    &'static [u8],
-    u32,
-    u32,
-    u8,
-    &'static [u8],
-);
 
 const RUNS: [Run; 24] = [
     (GREFS, REPLACED, 0, 0, 0, REPLACED_LOG),
@@ -121,12 +109,6 @@ end 4
 
 #[test]
 fn logs_are_written_and_judged(rt: HostRuntime) -> Result<(), Fail> {
-    for (words, text, read_fault, write_fault, status, written) in &RUNS {
-        let most = if *write_fault == 0 { 7 } else { 1 };
-        let fails = [*write_fault].to_vec(rt.alloc())?;
-        let mut out = ByteSink::new(rt.alloc(), most, fails);
-        expect(&rt, rt.alloc(), words, text, *read_fault, &mut out, *status)?;
-        expect_text(&rt, out.bytes(), written);
-    }
+    expect_runs(&rt, rt.alloc(), RUNS.as_slice())?;
     Ok(())
 }

@@ -1,8 +1,6 @@
-// The top call by worked examples: printed reports, and each status. What is compared stands in a table, which one loop
-// reads.
+// The top call by worked examples: printed reports, and each status.
 
-use crate::expecting::{SERIAL, THREADS, USAGE, expect, expect_text};
-use byte_streams::ByteSink;
+use crate::expecting::{Run, SERIAL, THREADS, USAGE, expect_runs};
 use std::test::Fail;
 use worked_texts::{LINKED, LINKED_REPORT};
 
@@ -15,17 +13,6 @@ lines 27 cycles 1
 made managed 7 peers 6 handles 4
 live managed 4 peers 2 handles 2
 ";
-
-// The words, the text, the number of the source's call that fails and of the sink's, 0 for none; and the status and
-// what is written. A sink of which a call fails takes one byte a call.
-type Run = (
-    &'static [&'static str],
-    &'static [u8],
-    u32,
-    u32,
-    u8,
-    &'static [u8],
-);
 
 const RUNS: [Run; 48] = [
     (SERIAL, LINKED, 0, 0, 0, LINKED_REPORT),
@@ -342,12 +329,6 @@ live managed 0 peers 0 handles 0
 
 #[test]
 fn each_run_has_its_status_and_its_text(rt: HostRuntime) -> Result<(), Fail> {
-    for (words, text, read_fault, write_fault, status, written) in &RUNS {
-        let most = if *write_fault == 0 { 7 } else { 1 };
-        let fails = [*write_fault].to_vec(rt.alloc())?;
-        let mut out = ByteSink::new(rt.alloc(), most, fails);
-        expect(&rt, rt.alloc(), words, text, *read_fault, &mut out, *status)?;
-        expect_text(&rt, out.bytes(), written);
-    }
+    expect_runs(&rt, rt.alloc(), RUNS.as_slice())?;
     Ok(())
 }
