@@ -2,6 +2,7 @@
 
 ghost use Rattle.std.specs.Prelude.{◌≤◌};
 
+use crate::comparing::expect_text;
 use byte_streams::{ByteSink, Failed};
 use check_laws::{Finding, Why};
 use report_answers::{write_finding, write_report_refusal};
@@ -62,10 +63,6 @@ const FAULTS: [(u32, ReportCause, &[u8]); 3] = [
         b"line 4294967295: cause 14 form\n",
     ),
 ];
-
-fn expect_text(rt: &impl Abort, found: &[u8], wanted: &[u8]) {
-    assert_eq!(rt; found, wanted);
-}
 
 fn expect_failed(rt: &impl Abort, answer: Result<(), Failed>) {
     assert!(rt; answer.is_err());

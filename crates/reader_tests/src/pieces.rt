@@ -2,10 +2,9 @@
 
 ghost use Rattle.std.specs.Prelude.{Some};
 
-use crate::comparing::{expect_of, expect_text};
+use crate::comparing::{expect_of, expect_report};
 use crate::written_again::cycles;
-use byte_streams::{ByteSink, ByteSource, Failed, Source};
-use history_report::write_report;
+use byte_streams::{ByteSource, Failed, Source};
 use limited_reports::{TakeError, take_report};
 use std::alloc::{AllocError, Global};
 use std::process::Abort;
@@ -74,25 +73,6 @@ fn source_of(alloc: Global, text: &[u8], more: u16, fails: u32) -> Result<Portio
     Ok(Portions { source, more })
 }
 
-// Takes the report from such a source, and writes it again.
-fn taken_again(
-    alloc: Global,
-    text: &[u8],
-    limit: u16,
-    more: u16,
-    fails: u32,
-) -> Result<Vec<u8>, TakeError> {
-    let mut src = source_of(alloc, text, more, fails)?;
-    let history = take_report(alloc, &mut src, limit as usize)?;
-    let mut out = ByteSink::new(alloc, 4096, Vec::new(alloc));
-    if write_report(&history, &mut out).is_err() {
-        return Err(TakeError::OutOfMemory);
-    }
-    let mut again = Vec::new(alloc);
-    again.extend_from_slice(out.bytes())?;
-    Ok(again)
-}
-
 // What is answered in place of a report: a thousand times the line that is refused and the number of its cause, a
 // thousand times the line that is too long, or 1 where a read failed.
 fn number_of(error: TakeError) -> u64 {
@@ -104,7 +84,8 @@ fn number_of(error: TakeError) -> u64 {
     }
 }
 
-// Compares that number, which is 0 where the report is read; then it is written as it was.
+// Takes a report from such a source, and compares that number, which is 0 where the report is read; then it is written
+// as it was.
 fn expect_taken<R: Abort>(
     rt: &R,
     alloc: Global,
@@ -114,15 +95,20 @@ fn expect_taken<R: Abort>(
     fails: u32,
     wanted: u64,
 ) -> Result<(), AllocError> {
-    match taken_again(alloc, text, limit, more, fails) {
-        Ok(again) => {
+    let mut src = source_of(alloc, text, more, fails)?;
+    let taken = take_report(alloc, &mut src, limit as usize);
+    drop(src);
+    match taken {
+        Ok(history) => {
             expect_of(rt, text, 0, wanted);
-            expect_text(rt, &again, text);
+            expect_report(rt, alloc, &history, text)
         }
-        Err(TakeError::OutOfMemory) => return Err(AllocError),
-        Err(error) => expect_of(rt, text, number_of(error), wanted),
+        Err(TakeError::OutOfMemory) => Err(AllocError),
+        Err(error) => {
+            expect_of(rt, text, number_of(error), wanted);
+            Ok(())
+        }
     }
-    Ok(())
 }
 
 // Of each text a limit of bytes and that number.

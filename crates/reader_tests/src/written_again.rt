@@ -2,9 +2,7 @@
 
 ghost use Rattle.std.specs.Prelude.{◌≤◌};
 
-use crate::comparing::expect_text;
-use byte_streams::ByteSink;
-use history_report::write_report;
+use crate::comparing::expect_report;
 use report_reader::{ReportError, read_report};
 use std::alloc::{AllocError, Global};
 use std::process::Abort;
@@ -14,20 +12,14 @@ use worked_texts::{LINKED_REPORT, SUBJECTS, parts_of, rows_of};
 // Reads a report, writes it again, and compares.
 fn expect_again<R: Abort>(rt: &R, alloc: Global, report: &[u8]) -> Result<(), AllocError> {
     assert!(rt; report.len() < 100_000);
-    let history = match read_report(alloc, report) {
-        Ok(history) => history,
-        Err(ReportError::OutOfMemory) => return Err(AllocError),
+    match read_report(alloc, report) {
+        Ok(history) => expect_report(rt, alloc, &history, report),
+        Err(ReportError::OutOfMemory) => Err(AllocError),
         Err(ReportError::Refused(fault)) => {
             assert_eq!(rt; fault.line, 0, "of {report:?}");
-            return Ok(());
+            Ok(())
         }
-    };
-    let mut out = ByteSink::new(alloc, 4096, Vec::new(alloc));
-    if write_report(&history, &mut out).is_err() {
-        return Err(AllocError);
     }
-    expect_text(rt, out.bytes(), report);
-    Ok(())
 }
 
 // The report of each row that has one, which is where its run ends with 0.

@@ -3,7 +3,8 @@
 ghost use Rattle.std.specs.Prelude.{◌<◌, ◌≤◌};
 
 use crate::replays::replay;
-use bridge_script::{Script, ScriptError, Turnstile, parse};
+use crate::worked::script_of;
+use bridge_script::{Script, Turnstile};
 use joint_model::{History, Thread};
 use script_runs::run_threads;
 use std::alloc::{AllocError, Global};
@@ -211,6 +212,21 @@ fn run<R: Threads + Wait + Sync>(
     run_threads(rt, alloc, script.lines(), &turn)
 }
 
+// The history of the run on threads of the script of a seed.
+fn history_drawn<R: Threads + Wait + Sync + Abort>(
+    rt: &R,
+    alloc: Global,
+    seed: usize,
+    lines: usize,
+) -> Result<History, AllocError> {
+    let text = draw_script(alloc, seed, lines)?;
+    let read = script_of(rt, alloc, &text);
+    drop(text);
+    let script = read?;
+    assert!(rt; script.len() as usize == lines, "seed {seed}");
+    run(rt, alloc, &script)
+}
+
 // Draws the script of a seed, runs it on threads, and has each entry judged.
 fn judge_seed<R: Threads + Wait + Sync + Abort>(
     rt: &R,
@@ -218,24 +234,9 @@ fn judge_seed<R: Threads + Wait + Sync + Abort>(
     seed: usize,
     lines: usize,
 ) -> Result<(), AllocError> {
-    let text = draw_script(alloc, seed, lines)?;
-    match parse(alloc, &text) {
-        Ok(script) => {
-            let h = run(rt, alloc, &script)?;
-            assert!(rt;
-                script.len() as usize == lines && h.len() >= lines as u64,
-                "seed {seed}"
-            );
-            replay(rt, alloc, &h)
-        }
-        Err(error) => {
-            assert!(rt;
-                error == ScriptError::OutOfMemory,
-                "seed {seed} draws no script"
-            );
-            Err(AllocError)
-        }
-    }
+    let h = history_drawn(rt, alloc, seed, lines)?;
+    assert!(rt; h.len() >= lines as u64, "seed {seed}");
+    replay(rt, alloc, &h)
 }
 
 // Every short script whose turn it is, of 20 to 40 lines, and a long one.

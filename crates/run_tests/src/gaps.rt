@@ -443,31 +443,27 @@ fn is_rest(entry: &Entry, last: u32) -> bool {
     }
 }
 
-// The replies of the lines between the first and the last phase of a cycle, but for those of the driver; and what comes
-// of the cycle.
-fn seen_of(
-    alloc: Global,
+// Puts the replies of the lines between the first and the last phase of a cycle, but for those of the driver; and what
+// comes of the cycle.
+fn put_seen(
     h: &History,
+    report: &[u8],
     first: u32,
     last: u32,
-) -> Result<(Vec<u8>, Vec<u8>), AllocError> {
-    let mut out = ByteSink::new(alloc, 4096, Vec::new(alloc));
-    if write_report(h, &mut out).is_err() {
-        return Err(AllocError);
-    }
-    let mut replies = Vec::new(alloc);
-    let mut rest = Vec::new(alloc);
+    replies: &mut Vec<u8>,
+    rest: &mut Vec<u8>,
+) -> Result<(), AllocError> {
     let mut number = 0u64;
-    for line in out.bytes().split(|b| *b == b'\n') {
+    for line in report.split(|b| *b == b'\n') {
         let Some(entry) = h.entry(number) else { break };
         number = number.wrapping_add(1);
         if is_rest(&entry, last) {
-            put_line(&mut rest, line)?;
+            put_line(rest, line)?;
         } else if first < entry.made.index && entry.made.caller != Thread::C {
-            put_line(&mut replies, line)?;
+            put_line(replies, line)?;
         }
     }
-    Ok((replies, rest))
+    Ok(())
 }
 
 // Compares what was seen of lines in a gap.
@@ -475,23 +471,62 @@ fn expect_text(rt: &impl Abort, lines: &[u8], gap: u16, found: &[u8], wanted: &[
     assert_eq!(rt; found, wanted, "{lines:?} in gap {gap}");
 }
 
-// Runs the script of a row in each of its gaps.
+// Compares what is seen of a history in which the lines of a row stand in a gap.
+fn expect_seen<R: Abort>(
+    rt: &R,
+    alloc: Global,
+    h: &History,
+    before: u32,
+    row: &Row,
+    gap: u16,
+) -> Result<(), AllocError> {
+    let mut out = ByteSink::new(alloc, 4096, Vec::new(alloc));
+    if write_report(h, &mut out).is_err() {
+        return Err(AllocError);
+    }
+    let last = before.wrapping_add(lines_of(row.0)).wrapping_add(8);
+    let mut replies = Vec::new(alloc);
+    let mut rest = Vec::new(alloc);
+    put_seen(h, out.bytes(), before, last, &mut replies, &mut rest)?;
+    expect_text(rt, row.0, gap, &replies, row.3);
+    expect_text(rt, row.0, gap, &rest, row.4);
+    Ok(())
+}
+
+// The history of the run of a script with lines in a gap.
+fn history_at<R: Wait + Abort>(
+    rt: &R,
+    alloc: Global,
+    around: Around,
+    lines: &[u8],
+    gap: u16,
+) -> Result<History, AllocError> {
+    let text = script_at(alloc, around, lines, gap)?;
+    history_of(rt, alloc, &text)
+}
+
+// Runs the script of a row in one of its gaps.
+fn judge_gap<R: Wait + Abort>(
+    rt: &R,
+    alloc: Global,
+    around: Around,
+    row: &Row,
+    gap: u16,
+) -> Result<(), AllocError> {
+    let h = history_at(rt, alloc, around, row.0, gap)?;
+    expect_seen(rt, alloc, &h, lines_of(around.0), row, gap)?;
+    replay(rt, alloc, &h)
+}
+
+// Runs it in each of them.
 fn judge_row<R: Wait + Abort>(
     rt: &R,
     alloc: Global,
     around: Around,
     row: &Row,
 ) -> Result<(), AllocError> {
-    let (lines, from, to, replies, rest) = *row;
-    let before = lines_of(around.0);
-    let last = before.wrapping_add(lines_of(lines)).wrapping_add(8);
-    for gap in from..to.wrapping_add(1) {
-        let text = script_at(alloc, around, lines, gap)?;
-        let h = history_of(rt, alloc, &text)?;
-        let seen = seen_of(alloc, &h, before, last)?;
-        expect_text(rt, lines, gap, &seen.0, replies);
-        expect_text(rt, lines, gap, &seen.1, rest);
-        replay(rt, alloc, &h)?;
+    for gap in row.1..row.2.wrapping_add(1) {
+        judge_gap(rt, alloc, around, row, gap)?;
     }
     Ok(())
 }

@@ -32,10 +32,8 @@ fn otherwise(entry: &Entry) -> Entry {
     }
 }
 
-/// Judges a history entry by entry: each step of the joint machine is lawful, also after an unlawful one, and what is
-/// no step isn't.
-pub(crate) fn replay(rt: &impl Abort, alloc: Global, h: &History) -> Result<(), AllocError> {
-    let mut state = JointState::new(alloc)?;
+// Each step of the joint machine is lawful, also after an unlawful one, and what is no step isn't.
+fn judge_entries(rt: &impl Abort, state: &mut JointState, h: &History) -> Result<(), AllocError> {
     for i in 0..h.len() {
         let Some(entry) = h.entry(i) else {
             unreachable!()
@@ -45,6 +43,15 @@ pub(crate) fn replay(rt: &impl Abort, alloc: Global, h: &History) -> Result<(), 
         let lawful = state.replay_step(h, i)? == Verdict::Lawful;
         assert!(rt; lawful == is_step(&entry), "entry {i}: {lawful}");
     }
+    Ok(())
+}
+
+/// Judges a history entry by entry, and has it checked as a whole. Answers `AllocError` where memory is wanting.
+pub(crate) fn replay(rt: &impl Abort, alloc: Global, h: &History) -> Result<(), AllocError> {
+    let mut state = JointState::new(alloc)?;
+    let judged = judge_entries(rt, &mut state, h);
+    drop(state);
+    judged?;
     let found = check(alloc, h)?;
     assert!(rt; found == Finding::Legal, "{found:?}");
     Ok(())

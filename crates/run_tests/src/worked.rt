@@ -16,19 +16,25 @@ fn run(rt: &impl Wait, alloc: Global, script: &Script) -> Result<History, AllocE
     run_serial(rt, alloc, script.lines())
 }
 
+/// The script that a text is.
+pub(crate) fn script_of(rt: &impl Abort, alloc: Global, text: &[u8]) -> Result<Script, AllocError> {
+    match parse(alloc, text) {
+        Ok(script) => Ok(script),
+        Err(error) => {
+            assert!(rt; error == ScriptError::OutOfMemory, "no script");
+            Err(AllocError)
+        }
+    }
+}
+
 /// The history of the run of a script's text.
 pub(crate) fn history_of<R: Wait + Abort>(
     rt: &R,
     alloc: Global,
     text: &[u8],
 ) -> Result<History, AllocError> {
-    match parse(alloc, text) {
-        Ok(script) => run(rt, alloc, &script),
-        Err(error) => {
-            assert!(rt; error == ScriptError::OutOfMemory, "no script");
-            Err(AllocError)
-        }
-    }
+    let script = script_of(rt, alloc, text)?;
+    run(rt, alloc, &script)
 }
 
 /// How many lines there are.
