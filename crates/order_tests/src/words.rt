@@ -24,14 +24,7 @@ fn the_gate_closes_only_without_readers(rt: HostRuntime) -> Result<(), Fail> {
         panic!(rt; "the gate was closed")
     };
     assert!(rt; pending.cycle.0 == 1);
-    let _ = order.load_pin(&mut owner, 1);
-    let _ = order.load_pin(&mut owner, 2);
-    let _ = order.load_pin(&mut owner, 3);
-    let _ = order.load_pin(&mut owner, 4);
-    let _ = order.load_pin(&mut owner, 5);
-    let _ = order.load_pin(&mut owner, 6);
-    let _ = order.load_pin(&mut owner, 7);
-    let _ = order.load_pin(&mut owner, 8);
+    let _ = order.scan_pins(&mut owner);
     let snap = made(
         Thread::C,
         Op::Snap { cycle: Cycle(1) },
