@@ -1,6 +1,6 @@
 // The top call by worked examples: pictures, and each status. What is compared stands in a table, which one loop reads.
 
-use byte_streams::{ByteSink, ByteSource};
+use byte_streams::{ByteSink, ByteSource, Source};
 use picture_program::picture_main;
 use std::alloc::{AllocError, Global};
 use std::test::Fail;
@@ -170,7 +170,7 @@ const RUNS: [Run; 35] = [
 ];
 
 // The words of a command.
-pub(crate) fn words_of(alloc: Global, words: &[&str]) -> Result<Vec<String>, AllocError> {
+fn words_of(alloc: Global, words: &[&str]) -> Result<Vec<String>, AllocError> {
     let mut owned = Vec::new(alloc);
     for word in words {
         owned.push(String::from_str(alloc, word)?)?;
@@ -178,15 +178,35 @@ pub(crate) fn words_of(alloc: Global, words: &[&str]) -> Result<Vec<String>, All
     Ok(owned)
 }
 
+/// Makes the top call with these words, and answers its status. (It has no clause, so that its callers' proofs don't
+/// carry those of the top call.)
+pub(crate) fn status_of<S: Source + Drop>(
+    alloc: Global,
+    words: &[&str],
+    mut source: S,
+    out: &mut ByteSink,
+) -> Result<u8, AllocError> {
+    let words = words_of(alloc, words)?;
+    Ok(picture_main(alloc, &words, &mut source, out))
+}
+
+/// The source of a text. Its call with that number fails, 0 for none.
+pub(crate) fn source_of(
+    alloc: Global,
+    text: &[u8],
+    read_fault: u32,
+) -> Result<ByteSource, AllocError> {
+    let fails = [read_fault].to_vec(alloc)?;
+    Ok(ByteSource::new(text.to_vec(alloc)?, fails))
+}
+
 #[test]
 fn each_run_has_its_status_and_its_text(rt: HostRuntime) -> Result<(), Fail> {
     for (words, text, read_fault, write_fault, status, written) in &RUNS {
-        let words = words_of(rt.alloc(), words)?;
-        let fails = [*read_fault].to_vec(rt.alloc())?;
-        let mut source = ByteSource::new(text.to_vec(rt.alloc())?, fails);
         let fails = [*write_fault].to_vec(rt.alloc())?;
+        let source = source_of(rt.alloc(), text, *read_fault)?;
         let mut out = ByteSink::new(rt.alloc(), 7, fails);
-        let found = picture_main(rt.alloc(), &words, &mut source, &mut out);
+        let found = status_of(rt.alloc(), words, source, &mut out)?;
         assert_eq!(rt; found, *status, "for {words:?}");
         assert_eq!(rt; out.bytes(), *written);
     }

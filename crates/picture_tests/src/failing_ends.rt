@@ -3,9 +3,8 @@
 
 ghost use Rattle.std.specs.Prelude.{Some};
 
-use crate::drawn::{HELD, REPORT, words_of};
+use crate::drawn::{HELD, REPORT, source_of, status_of};
 use byte_streams::{ByteSink, ByteSource, Failed, Source};
-use picture_program::picture_main;
 use std::alloc::{AllocError, Global};
 use std::process::Abort;
 use std::test::Fail;
@@ -59,14 +58,11 @@ fn expect_endings<R: Abort>(
     due: &[u8],
     endings: &[Ending],
 ) -> Result<(), AllocError> {
-    let words = words_of(alloc, &[word])?;
     for (read_fault, write_fault, status, len) in endings {
-        let fails = [*read_fault].to_vec(alloc)?;
-        let mut source = Forties {
-            source: ByteSource::new(REPORT.to_vec(alloc)?, fails),
-        };
-        let mut out = ByteSink::new(alloc, 7, [*write_fault].to_vec(alloc)?);
-        let found = picture_main(alloc, &words, &mut source, &mut out);
+        let fails = [*write_fault].to_vec(alloc)?;
+        let source = source_of(alloc, REPORT, *read_fault)?;
+        let mut out = ByteSink::new(alloc, 7, fails);
+        let found = status_of(alloc, &[word], Forties { source }, &mut out)?;
         let wanted = (*len).min(due.len());
         assert_eq!(rt; (found, out.bytes().len()), (*status, wanted));
         assert!(rt; due.starts_with(out.bytes()));
@@ -86,10 +82,10 @@ fn an_end_that_fails_is_told_by_the_status(rt: HostRuntime) -> Result<(), Fail> 
 // and nothing is written.
 #[test]
 fn a_picture_without_memory_is_none(rt: HostRuntime) -> Result<(), Fail> {
-    let words = words_of(rt.alloc(), &["0", "1", "--around", "m1", "2"])?;
-    let mut source = ByteSource::new(REPORT.to_vec(rt.alloc())?, Vec::new(rt.alloc()));
+    let words = &["0", "1", "--around", "m1", "2"];
+    let source = source_of(rt.alloc(), REPORT, 0)?;
     let mut out = ByteSink::new(rt.alloc(), 7, Vec::new(rt.alloc()));
-    let found = picture_main(rt.alloc(), &words, &mut source, &mut out);
+    let found = status_of(rt.alloc(), words, source, &mut out)?;
     if found == 5 {
         assert_eq!(rt; out.bytes(), b"".as_slice());
     } else {
