@@ -65,7 +65,7 @@ module _ (old between new : View) (index : ℕ) (o : OpenSnap) (count : ℕ) (we
         made = makes_more old between new (sweep ∷ []) (begin ∷ []) (makes_one old between (weakening o count weakened false) m sweep (sweep_of v.freed) v.makes)
             (makes_one between new (weakening o count true true) m begin nothing w.makes);
         places = (refl, refl, (refl, refl, tt));
-        phase = inr (record { sweep = sweep; begin = begin; all = refl; sweeps = refl; ends = tt; begins = tt });
+        phase = inr (sweep, begin, r.1.marking.0, r.1.freed, refl, refl, refl, tt);
         cycle = λ k. refl;
         candidates = refl;
         last = refl;

@@ -14,11 +14,12 @@ use Rattle.joint_machine.specs.declared.lines.Act.TheVariants as act
 use Rattle.joint_machine.specs.declared.events.Entry.{Entry}
 use Rattle.joint_machine.specs.declared.events.Op.TheVariants as op
 use Rattle.joint_machine.specs.declared.events.Reply.{Reply}
+use Rattle.joint_machine.specs.declared.events.Reply.TheVariants as says
 use Rattle.joint_machine.specs.Control.{Stand, idle, IsAtRest, IsPhaseOf, last_line as control_line}
 use Rattle.joint_machine.specs.Lines.{IsDriver}
 use Rattle.joint_machine.specs.Managed.{Managed, OpenCycle, candidates_of}
-use Rattle.joint_machine.specs.ManagedReplay.{IsRefusedIn, refusal_to, open_reply}
-use Rattle.joint_machine.specs.Phases.{AreRefusal, NamesCycle, NamesPhase, next_phase, told_by}
+use Rattle.joint_machine.specs.ManagedReplay.{refusal_to, open_reply}
+use Rattle.joint_machine.specs.Phases.{AreRefusal, NamesPhase, next_phase, told_by}
 use Rattle.joint_machine.specs.Told.{nothing, phase_of as told_phase}
 use Rattle.joint_machine.proofs.Deciding.{none_some}
 use Rattle.known_laws.specs.Pasts.{end_of}
@@ -84,13 +85,13 @@ pub held_on : (f : Fields) (new : View) → StillStands f.view new → KnowsItsS
 held_on f new on h = held_there (knowing f new) (line_of (shown f)) h.stand h.seen (on (line_of (shown f)) h.stand h.seen h.stands) h.cycle h.at
 
 -- the reply of a refusal
-names : (w : PhaseWord) (f : Fields) (h : KnowsItsStand f) → IsRefusedIn w (phase_of f.stage) → NamesPhase w (phase_of f.stage) (refusal_to h.seen (phase_of f.stage) w)
+names : (w : PhaseWord) (f : Fields) (h : KnowsItsStand f) → next_phase (phase_of f.stage) w ≡ None → NamesPhase w (phase_of f.stage) (refusal_to h.seen (phase_of f.stage) w)
 names word.Cycle f h r =
     let c = is_open f.stage f.cycle f.candidates h.seen (λ e. none_some at.Idle (sym r ∙ ap (λ p. next_phase p word.Cycle) e)) h.cycle in
-    subst (λ (o : Option OpenCycle). NamesCycle (open_reply o)) (sym c.1.opened) tt
+    subst (λ (o : Option OpenCycle). (k : Cycle) × (open_reply o ≡ says.CycleOpen k)) (sym c.1.opened) (_, refl)
 names word.Snap f h r =
     let c = is_open f.stage f.cycle f.candidates h.seen (λ e. none_some at.Snapped (sym r ∙ ap (λ p. next_phase p word.Snap) e)) h.cycle in
-    subst (λ (o : Option OpenCycle). NamesCycle (open_reply o)) (sym c.1.opened) tt
+    subst (λ (o : Option OpenCycle). (k : Cycle) × (open_reply o ≡ says.CycleOpen k)) (sym c.1.opened) (_, refl)
 names word.Contract f h r = refl
 names word.Mirror f h r = refl
 names word.Weaken f h r = refl

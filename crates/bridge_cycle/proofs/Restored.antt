@@ -71,7 +71,7 @@ module _ {q : Progress} {v : View} {k : Cycle} {n index : ℕ} {o : Snapshot} {r
               w.entries ++ clear ∷ [],
               [],
               sym (append_nil (w.entries ++ clear ∷ [])),
-              record { restores = w.entries; clear = clear; all = refl; times = subst (λ (j : ℕ). AreTimes word.Restore j w.entries) count w.makes.times; clears = tt },
+              (w.entries, clear, refl, subst (λ (j : ℕ). AreTimes word.Restore j w.entries) count w.makes.times, tt),
               refl,
             );
             leads = (at.Restored, refl, refl);

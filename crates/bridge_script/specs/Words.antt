@@ -43,8 +43,7 @@ peer_static x = codes "s" ++ decimal x.0
 -- a static of the thread's own heap
 abbrev pub own_static : Thread → StaticNo → List ℕ
 own_static (M n) x = managed_static x
-own_static (P n) x = peer_static x
-own_static C x = peer_static x
+own_static _ x = peer_static x
 
 -- a global name of the peer heap: G0 to G63
 abbrev pub global_text : GName → List ℕ

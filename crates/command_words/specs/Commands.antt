@@ -11,23 +11,14 @@ abbrev pub mode_text : Mode → List ℕ
 mode_text mode.Serial = codes "serial"
 mode_text mode.Threads = codes "threads"
 
--- the pair of words that gives a seed, a size or a mode
-abbrev pub seed_pair : ℕ → List (List ℕ)
-seed_pair seed = codes "--seed" ∷ decimal seed ∷ []
-
-abbrev pub size_pair : ℕ → List (List ℕ)
-size_pair size = codes "--size" ∷ decimal size ∷ []
-
-abbrev pub mode_pair : Mode → List (List ℕ)
-mode_pair m = codes "--mode" ∷ mode_text m ∷ []
-
 -- three lists of words behind one another, in each order
 abbrev pub in_any_order : List (List ℕ) → List (List ℕ) → List (List ℕ) → List (List (List ℕ))
 in_any_order a b c = (a ++ b ++ c) ∷ (a ++ c ++ b) ∷ (b ++ a ++ c) ∷ (b ++ c ++ a) ∷ (c ++ a ++ b) ∷ (c ++ b ++ a) ∷ []
 
--- the words behind `gen`
+-- the words behind `gen`: a seed, a size and a mode
 abbrev pub generator_words : ℕ → ℕ → Mode → List (List (List ℕ))
-generator_words seed size m = in_any_order (seed_pair seed) (size_pair size) (mode_pair m)
+generator_words seed size m = in_any_order (codes "--seed" ∷ decimal seed ∷ [])
+    (codes "--size" ∷ decimal size ∷ []) (codes "--mode" ∷ mode_text m ∷ [])
 
 -- the lists of words by which a command may be given
 abbrev pub lists_of : Command → List (List (List ℕ))

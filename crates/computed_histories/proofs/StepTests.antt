@@ -15,13 +15,13 @@ use Rattle.joint_machine.specs.Heaps.{IsLive, numbered_at}
 use Rattle.joint_machine.specs.Joint.{Joint, Graph, JointMarking, opening, peer, IsReached}
 use Rattle.joint_machine.specs.Managed.{OpenCycle, Holds}
 use Rattle.joint_machine.specs.Peers.{peer_of}
-use Rattle.joint_machine.specs.Run.{IsComputed, JointBegin, JointSweep, JointRestore, IsStored, IsKept, JointEvent, IsRunFrom}
+use Rattle.joint_machine.specs.Run.{JointBegin, JointSweep, JointRestore, IsStored, IsKept, JointEvent, IsRunFrom}
 use Rattle.joint_machine.specs.Told.{Told, Answer, snap_of, sweep_of, resolution_of, Noted}
 use Rattle.computed_histories.specs.Graphs.{joint_reach, is_reached, is_handle_here}
 use Rattle.computed_histories.specs.Lists.{mem, is_empty, somes}
 use Rattle.computed_histories.specs.Rows.{is_live, is_resolution}
 use Rattle.computed_histories.specs.Steps.{is_unfreed, holds_unfreed, kept_rows, joint_begun, joint_swept, restored_on, joint_stepped, may_free, may_sweep, is_candidates, may_renew, is_answered}
-use Rattle.computed_histories.specs.Steps.{is_computed, joint_allows, joint_after, may_step, all_may_step, joint_moments, StepsAreTested, RunsAreTested}
+use Rattle.computed_histories.specs.Steps.{joint_allows, joint_after, may_step, all_may_step, joint_moments, StepsAreTested, RunsAreTested}
 use Rattle.computed_histories.specs.Sides.{is_open}
 use Rattle.computed_histories.proofs.Telling.{Tells, always, never, like, isn't, and2, and3, or2, same, all, is_true, is_false, that, empty}
 use Rattle.computed_histories.proofs.Reaching.{any_in, member, filtered, rising}
@@ -104,22 +104,6 @@ all_given [] e = refl
 all_given (None ∷ xs) e = absurd (false≢true e)
 all_given (Some a ∷ xs) e = ap (λ zs. Some a ∷ zs) (all_given xs e)
 
--- an event that is computed
-computed : (o : Op) → Tells (is_computed o) (IsComputed o)
-computed (op.Line (act.Slice n)) = never (λ z. z)
-computed (op.Snap k) = never (λ z. z)
-computed (op.Contract k) = never (λ z. z)
-computed (op.Mirror k) = never (λ z. z)
-computed (op.Weaken h) = never (λ z. z)
-computed op.Begin = never (λ z. z)
-computed op.Sweep = never (λ z. z)
-computed (op.Restore h) = never (λ z. z)
-computed (op.Clear k) = never (λ z. z)
-computed (op.Resolve k) = never (λ z. z)
-computed (op.Abandon k) = never (λ z. z)
-computed (op.Refused w) = never (λ z. z)
-computed _ = always tt
-
 steps_by : (j : Joint) (t : Thread) (o : Op) (reply : Reply) (told : Told) → joint_allows j t o told ≡ true
     → reply ≡ (joint_stepped j t o told).reply → JointEvent j t o reply told (joint_stepped j t o told).state
 steps_by j t (op.Snap k) reply (snap_of freed candidates dead) e r = record { snapshot = (snapshot j.graph.managed k.0 freed candidates dead).holds e; replies = r; state = refl }
@@ -142,7 +126,7 @@ steps_by j t (op.Mirror k) reply told e r = absurd (false≢true e)
 steps_by j t (op.Weaken h) reply told e r = absurd (false≢true e)
 steps_by j t (op.Clear k) reply told e r = absurd (false≢true e)
 steps_by j t (op.Refused w) reply told e r = absurd (false≢true e)
-steps_by j t _ reply told e r = record { computed = tt; replies = r; state = refl }
+steps_by j t _ reply told e r = record { joint = refl; replies = r; state = refl }
 
 pub steps_tested : StepsAreTested
 steps_tested j n e =

@@ -4,7 +4,6 @@ use Rattle.std.specs.Prelude.{replicate, Option, Some, None}
 use Rattle.std.specs.List.{list_any, list_all}
 use Rattle.joint_machine.specs.declared.names.Thread.{Thread}
 use Rattle.joint_machine.specs.declared.names.Thread.TheVariants.{C}
-use Rattle.joint_machine.specs.declared.lines.Act.TheVariants as act
 use Rattle.joint_machine.specs.declared.events.Op.{Op}
 use Rattle.joint_machine.specs.declared.events.Op.TheVariants as op
 use Rattle.joint_machine.specs.declared.events.Reply.TheVariants as says
@@ -14,7 +13,7 @@ use Rattle.joint_machine.specs.Joint.{Joint, Graph, JointMarking, opening, Row, 
 use Rattle.joint_machine.specs.Managed.{OpenCycle, with_snapshot, resolved, abandoned}
 use Rattle.joint_machine.specs.PeerReplay.{is_thread}
 use Rattle.joint_machine.specs.Peers.{peer_of}
-use Rattle.joint_machine.specs.Run.{joint_answer, joint_restored, Moment, IsRun, JointStep}
+use Rattle.joint_machine.specs.Run.{joint_answer, joint_restored, Moment, IsRun, JointStep, is_joint}
 use Rattle.joint_machine.specs.Told.{Told, snap_of, sweep_of, resolution_of, Noted}
 use Rattle.computed_histories.specs.Graphs.{row_eq, joint_reach, is_handle_here}
 use Rattle.computed_histories.specs.Lines.{is_event, is_peer_thread}
@@ -100,22 +99,6 @@ may_renew j h = has_that (is_candidates j h) j.graph.managed.cycle && has_that n
 abbrev pub is_answered : Joint → Bool
 is_answered j = list_all (λ a. not (is_empty a)) j.answers
 
--- whether the event is computed
-abbrev pub is_computed : Op → Bool
-is_computed (op.Line (act.Slice n)) = false
-is_computed (op.Snap k) = false
-is_computed (op.Contract k) = false
-is_computed (op.Mirror k) = false
-is_computed (op.Weaken h) = false
-is_computed op.Begin = false
-is_computed op.Sweep = false
-is_computed (op.Restore h) = false
-is_computed (op.Clear k) = false
-is_computed (op.Resolve k) = false
-is_computed (op.Abandon k) = false
-is_computed (op.Refused w) = false
-is_computed _ = true
-
 -- what an event asks for, beside its reply
 abbrev pub joint_allows : Joint → Thread → Op → Told → Bool
 joint_allows j t (op.Snap k) (snap_of freed candidates dead) = is_snapshot j.graph.managed k.0 freed candidates dead
@@ -124,8 +107,10 @@ joint_allows j t op.Sweep told = may_sweep j j.marking t told
 joint_allows j t (op.Restore h) told = may_renew j h.0
 joint_allows j t (op.Resolve k) (resolution_of alive freed) = is_answered j && is_open j.graph.managed k.0
     (λ c. is_resolution j.graph.managed c.dead (kept_rows j.graph c) freed)
+joint_allows j t (op.Snap k) told = false
+joint_allows j t (op.Resolve k) told = false
 joint_allows j t (op.Abandon k) told = list_all is_empty j.answers && is_open j.graph.managed k.0 (λ c. true)
-joint_allows j t o told = is_computed o
+joint_allows j t o told = is_joint o
 
 -- the state after an entry, and whether the entry is a step to it
 abbrev pub joint_after : Joint → Noted → Joint

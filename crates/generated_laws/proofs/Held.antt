@@ -1,5 +1,6 @@
 -- What the entries of held lines count: line by line, thread by thread, and of all threads together.
 use Rattle.std.proofs.Common.{◌≡◌, ℕ, ◌+◌, List, [], ◌∷◌, refl, sym, ap, subst, ◌∙◌}
+use Rattle.std.specs.Prelude.{unwrap_or}
 use Rattle.joint_machine.specs.declared.names.Thread.{Thread}
 use Rattle.joint_machine.specs.declared.names.Phase.{Phase}
 use Rattle.joint_machine.specs.declared.names.Phase.TheVariants as at
@@ -10,13 +11,13 @@ use Rattle.joint_machine.specs.declared.events.Entry.{Entry}
 use Rattle.joint_machine.specs.Lines.{IsThread}
 use Rattle.joint_machine.specs.Phases.{next_phase, phases_left, ArePhases}
 use Rattle.joint_machine.specs.PeerReplay.{is_thread}
-use Rattle.script_laws.specs.Holding.{Standing, opening_standing, AreEvents, standing_after, phase_after, HoldsLines, HoldsPerThread, numbered_from, lines_of, entries_by}
+use Rattle.script_laws.specs.Holding.{Standing, opening_standing, AreEvents, standing_after, HoldsLines, HoldsPerThread, numbered_from, lines_of, entries_by}
 use Rattle.generated_laws.proofs.Totals.{Each, each-append, each-filter, total, total-append, all_threads, by_threads}
 use Rattle.generated_laws.proofs.Own.{IsSimple}
 
 -- the driver is idle after each line
 pub idle-after : (s : Standing) (number : ℕ) (a : Act) (own : List Entry) → s.phase ≡ at.Idle → IsSimple a → (standing_after s number a own).phase ≡ at.Idle
-idle-after s number (act.PhaseLine word.Cycle) own i w = subst (λ (p : Phase). phase_after p (next_phase p word.Cycle) ≡ at.Idle) (sym i) refl
+idle-after s number (act.PhaseLine word.Cycle) own i w = subst (λ (p : Phase). unwrap_or (next_phase p word.Cycle) p ≡ at.Idle) (sym i) refl
 idle-after s number (act.New v k n) own i w = i
 idle-after s number (act.Bridge v k n sort f) own i w = i
 idle-after s number (act.Set v j x) own i w = i

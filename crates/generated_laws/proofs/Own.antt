@@ -101,11 +101,11 @@ phase-later word.Mirror n es l a = each-later word.Mirror es tt a.each
 phase-later word.Weaken n es l a = each-later word.Weaken es tt a.each
 phase-later word.Mark n es l a = elim a [
   | inl b ↦ each-later word.Mark es tt b.each
-  | inr b ↦ subst (Each IsLaterEntry) (sym b.all) (subst IsLater (sym b.sweeps) tt, (event-later word.Mark b.begin.made.op tt b.begins, tt))
+  | inr b ↦ subst (Each IsLaterEntry) (sym b.4) (subst IsLater (sym b.5) tt, (event-later word.Mark b.1.made.op tt b.7, tt))
 ]
 phase-later word.Sweep n es l a = each-later word.Sweep es tt a.each
-phase-later word.Restore n es l a = subst (Each IsLaterEntry) (sym a.all)
-    (each-join IsLaterEntry a.restores (a.clear ∷ []) (each-later word.Restore a.restores tt a.times.each) (clear-later a.clear.made.op a.clears, tt))
+phase-later word.Restore n es l a = subst (Each IsLaterEntry) (sym a.2)
+    (each-join IsLaterEntry a.0 (a.1 ∷ []) (each-later word.Restore a.0 tt a.3.each) (clear-later a.1.made.op a.4, tt))
 phase-later word.Resolve n es l a = each-later word.Resolve es tt a.each
 
 phases-later : (ws : List PhaseWord) (n : ℕ) (es : List Entry) → AreLaterWords ws → ArePhases n ws es → Each IsLaterEntry es

@@ -14,10 +14,10 @@ use Rattle.joint_machine.specs.declared.events.Reply.{Reply}
 use Rattle.joint_machine.specs.declared.events.Reply.TheVariants as says
 use Rattle.joint_machine.specs.Components.{End}
 use Rattle.joint_machine.specs.Control.{answer_in}
-use Rattle.joint_machine.specs.Heaps.{Answered, answer, numbered_at, numbered_set, place, is_full, next_number, with_var, field_set}
+use Rattle.joint_machine.specs.Heaps.{Answered, answer, numbered_at, numbered_set, place, is_full, next_number, with_var, field_set, place_or_none}
 use Rattle.joint_machine.specs.Lines.{is_peer_event}
 use Rattle.joint_machine.specs.Linked.{Linkage, SideLawful, managed_after, peer_after}
-use Rattle.joint_machine.specs.Managed.{Managed, place_or_none}
+use Rattle.joint_machine.specs.Managed.{Managed}
 use Rattle.joint_machine.specs.ManagedReplay.{ManagedReplay, managed_answer}
 use Rattle.joint_machine.specs.Peers.{Peers, Issued, held, strong, weak, next_handle, peer_made, peer_name, peer_of, with_peer}
 use Rattle.joint_machine.specs.PeerReplay.{PeerReplay, PeerAllows, TableRow, Marking, begun, fresh_row, swept, renewed_on, restored_by, row_of, mirrored, peer_answer, with_weakened, withdrawn}
@@ -279,14 +279,14 @@ module _ (s : PeerReplay) (k : PeerInvariant s) where
 
   peers-same : (o : Op) (cites : Option ℕ) (told : Told) → IsOfCycle o → PeerAllows s C o cites told → SameSide s (peer_answer s C o cites told).state o (peer_answer s C o cites told).reply
   peers-same (op.Mirror c) cites (references_of refs) w a = mirrored-same c cites refs
-  peers-same (op.Mirror c) cites _ w a = no-change (op.Mirror c) says.Ok
+  peers-same (op.Mirror c) cites _ w a = no-change (op.Mirror c) says.NoMark
   peers-same op.Begin cites told w a = begun-same s.marking
   peers-same op.Sweep cites (sweep_of freed) w a = swept-same s.marking freed
   peers-same op.Sweep cites _ w a = swept-same s.marking []
   peers-same (op.Restore h) cites told w a = restored-same h (row_of s h.0)
-  peers-same (op.Snap c) cites told w a = no-change (op.Snap c) says.Ok
-  peers-same (op.Contract c) cites told w a = no-change (op.Contract c) says.Ok
-  peers-same (op.Resolve c) cites told w a = no-change (op.Resolve c) says.Ok
+  peers-same (op.Snap c) cites told w a = no-change (op.Snap c) says.NoMark
+  peers-same (op.Contract c) cites told w a = no-change (op.Contract c) says.NoMark
+  peers-same (op.Resolve c) cites told w a = no-change (op.Resolve c) says.NoMark
   peers-same (op.Weaken h) cites told w a = weakened-same h cites told a
   peers-same (op.Clear c) cites told w a = record { fields = refl; vars = refl; statics = refl; issued = inl refl; tabled = λ n row t. inl (row, t) }
   peers-same _ cites told w a = absurd w

@@ -12,9 +12,9 @@ use Rattle.joint_machine.specs.declared.events.Op.TheVariants as op
 use Rattle.joint_machine.specs.declared.events.Reply.{Reply}
 use Rattle.joint_machine.specs.declared.events.Reply.TheVariants as says
 use Rattle.joint_machine.specs.Components.{End}
-use Rattle.joint_machine.specs.Heaps.{Heap, Answered, answer, slot, place, is_full, numbered_at, numbered_set}
+use Rattle.joint_machine.specs.Heaps.{Heap, Answered, answer, slot, place, is_full, numbered_at, numbered_set, heap_line}
 use Rattle.joint_machine.specs.Peers.{Peers, Issued, Strength, strong, weak, held, raw, pair_made, peer_gripped, landed, name_given, peer_read, name_read, on_peer_heap, peer_line, issued_since}
-use Rattle.joint_machine.specs.Peers.{handles_full, next_handle}
+use Rattle.joint_machine.specs.Peers.{handles_full, next_handle, peer_name}
 use Rattle.joint_machine.specs.PeerReplay.{PeerReplay, TableRow, Marking, row_of, fresh_row, table_target, on_table, bring_by, untabled, peer_thread_line, is_thread, sliced, begun, swept, restored_by}
 use Rattle.joint_machine.specs.PeerReplay.{mirrored, peer_answer, PeerAllows, IsHeld}
 use Rattle.joint_machine.specs.Run.{thread_number}
@@ -141,12 +141,6 @@ module _ (s : PeerReplay) (k : PeerInvariant s) (names : NamesInvariant s.peers.
   line-goes t (act.NewPeer v n) = test-cases (OnTable (op.Line (act.NewPeer v n))) (is_full s.peers.heap.fields) _ _
       (stays (op.Line (act.NewPeer v n)) says.Full refl)
       (still (op.Line (act.NewPeer v n)) _ refl refl refl)
-  line-goes t (act.Copy v w) = moved-goes (op.Line (act.Copy v w)) (λ r. refl) _
-  line-goes t (act.Set v i w) = moved-goes (op.Line (act.Set v i w)) (λ r. refl) _
-  line-goes t (act.Get v w i) = moved-goes (op.Line (act.Get v w i)) (λ r. refl) _
-  line-goes t (act.Drop v) = moved-goes (op.Line (act.Drop v)) (λ r. refl) _
-  line-goes t (act.Load v x) = moved-goes (op.Line (act.Load v x)) (λ r. refl) _
-  line-goes t (act.Store x v) = moved-goes (op.Line (act.Store x v)) (λ r. refl) _
   line-goes t (act.Global g v) = global-goes (op.Line (act.Global g v)) strong
       (λ r c. elim c [ inl e ↦ by-refusal r _ e refl | inr d ↦ elim d [ inl e ↦ by-refusal r _ e refl | inr e ↦ by-refusal r _ e refl ] ]) (λ h. refl) g.0 (place t v.0)
     where
@@ -160,7 +154,7 @@ module _ (s : PeerReplay) (k : PeerInvariant s) (names : NamesInvariant s.peers.
   line-goes t (act.UnGlobal g) = unglobal-goes g (slot s.peers.names g.0) refl
   line-goes t (act.WRead v g) = brought (on_table s (peer_line (table_target s) s.peers t (act.WRead v g)))
       (peer_line (table_target s) s.peers t (act.WRead v g)).reply (op.Line (act.WRead v g)) (wread-goes (op.Line (act.WRead v g)) (λ r. refl) (place t v.0) g.0)
-  line-goes t a = stays (op.Line a) says.Ok refl
+  line-goes t a = moved-goes (op.Line a) (λ r. refl) (heap_line peer_name s.peers.heap t a)
 
   sliced-goes : (x : Option Marking) (t : Thread) (n m : ℕ) (closure : List ℕ)
       → Goes s (sliced s x t n closure).state.peers (sliced s x t n closure).state.table (op.Line (act.Slice m)) (sliced s x t n closure).reply

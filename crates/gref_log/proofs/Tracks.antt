@@ -19,12 +19,11 @@ use Rattle.joint_machine.specs.declared.events.Op.TheVariants as op
 use Rattle.joint_machine.specs.declared.events.Reply.{Reply}
 use Rattle.joint_machine.specs.declared.events.Reply.TheVariants as says
 use Rattle.joint_machine.specs.Components.{End}
-use Rattle.joint_machine.specs.Heaps.{Answered, Heap, answer, field_set, field_stored, fields_of, is_full, numbered_at, place, read_into, slot, stored}
+use Rattle.joint_machine.specs.Heaps.{Answered, Heap, answer, field_set, field_stored, fields_of, is_full, numbered_at, place, read_into, slot, stored, place_or_none}
 use Rattle.joint_machine.specs.Lines.{is_peer_event}
 use Rattle.joint_machine.specs.Linked.{peer_after}
 use Rattle.joint_machine.specs.PeerReplay.{Marking, PeerReplay, TableRow, begun, bring_by, is_thread, mirrored, on_table, peer_answer, peer_thread_line, renewed_on, restored_by, row_of, sliced, swept}
 use Rattle.joint_machine.specs.PeerReplay.{table_target}
-use Rattle.joint_machine.specs.Managed.{place_or_none}
 use Rattle.joint_machine.specs.Peers.{Issued, Peers, Strength, handles_full, is_strong, landed, name_given, name_read, next_handle, on_peer_heap, pair_made, peer_gripped, peer_line, peer_name}
 use Rattle.joint_machine.specs.Peers.{peer_of, peer_read, strong, weak}
 use Rattle.joint_machine.specs.Told.{Told, references_of, slice_of, sweep_of}

@@ -8,9 +8,9 @@ use Rattle.joint_machine.specs.declared.events.Entry.{Entry}
 use Rattle.joint_machine.specs.Components.{End}
 use Rattle.joint_machine.specs.Histories.{Finished}
 use Rattle.joint_machine.specs.Joint.{Joint, opening}
-use Rattle.joint_machine.specs.Linked.{is_joint}
 use Rattle.joint_machine.specs.Lines.{is_read}
 use Rattle.joint_machine.specs.Readers.{is_set_aside}
+use Rattle.joint_machine.specs.Run.{is_joint}
 use Rattle.joint_replay.specs.declared.state.Verdict.{Verdict}
 use Rattle.joint_replay.specs.declared.state.Verdict.TheVariants.{Lawful, Unlawful}
 use Rattle.joint_replay.specs.Judging.{IsStepOf}

@@ -1,9 +1,9 @@
 // The view, and how it goes from entry to entry.
 
 ghost use Rattle.std.specs.Prelude.{◌≡◌, ◌&&◌, ◌+◌, ◌<◌, IfOk, OnOk, MatchOption, Some, length, slice_get, take, map};
-ghost use Rattle.joint_machine.specs.Linked.{is_joint};
 ghost use Rattle.joint_machine.specs.Lines.{is_read};
 ghost use Rattle.joint_machine.specs.Readers.{is_set_aside};
+ghost use Rattle.joint_machine.specs.Run.{is_joint};
 ghost use Rattle.heap_views.specs.Mirrored.{ends_as};
 ghost use Rattle.heap_views.specs.Views.{GoesOn, IsSeenOn, IsStuck, MovesOn, RefsAfter, Seen, is_lawful, is_step};
 ghost use Rattle.heap_views.specs.Views.{opening_view, weakened_after};

@@ -14,9 +14,8 @@ numbers_of h Notices = managed_numbers h.notices
 
 -- the letter of its objects
 abbrev pub letter_of : Numbers → ℕ
-letter_of Freed = 109
 letter_of FreedPeers = 112
-letter_of Notices = 109
+letter_of _ = 109
 
 -- numbers as words, each with its letter
 abbrev pub lettered : ℕ → List ℕ → List (List ℕ)

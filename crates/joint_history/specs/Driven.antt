@@ -20,7 +20,8 @@ use Rattle.joint_machine.specs.Draws.{numbered}
 use Rattle.joint_machine.specs.HistoryLines.{caller_line}
 use Rattle.joint_machine.specs.Linked.{Linkage}
 use Rattle.joint_machine.specs.Managed.{Managed, OpenCycle, candidates_of}
-use Rattle.joint_machine.specs.ManagedReplay.{IsRefusedIn, refusal_to}
+use Rattle.joint_machine.specs.ManagedReplay.{refusal_to}
+use Rattle.joint_machine.specs.Phases.{next_phase}
 use Rattle.joint_machine.specs.Told.{Told, Noted, Answer, nothing, contraction_of, resolution_of, phase_of}
 use Rattle.known_laws.specs.Driving.{PastInvariant}
 use Rattle.known_laws.specs.Known.{SideMayCome}
@@ -152,7 +153,7 @@ pub record MayRefuseWord (v : View) (index : ℕ) (w : PhaseWord) (phase : Phase
   pub seen : Managed
   pub stands : DriverStands v index stand seen
   pub in_phase : IsPhaseOf stand (length (candidates_of seen)) phase
-  pub refused : IsRefusedIn w phase
+  pub refused : next_phase phase w ≡ None
 
 -- where the driver stands after a refusal in that phase: where it stood, but that in the weakened phase it may be seen
 -- now that it has come to it

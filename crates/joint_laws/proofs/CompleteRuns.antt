@@ -6,9 +6,9 @@ use Rattle.std.proofs.lemmas.Bool.{cases_eq}
 use Rattle.std.proofs.lemmas.Option.{same_Some, slice_get_within}
 use Rattle.joint_machine.specs.Headline.{ResolvesAt, IsCompleteCycle, IsSoundRun, IsCompleteRun}
 use Rattle.joint_machine.specs.Joint.{opening}
-use Rattle.joint_machine.specs.Linked.{Linkage, MayCome, opening_linkage, linkage_after, is_joint}
+use Rattle.joint_machine.specs.Linked.{Linkage, MayCome, opening_linkage, linkage_after}
 use Rattle.joint_machine.specs.Replaying.{AllMayCome, machine_entries}
-use Rattle.joint_machine.specs.Run.{Moment, IsRunFrom, IsRun}
+use Rattle.joint_machine.specs.Run.{Moment, IsRunFrom, IsRun, is_joint}
 use Rattle.joint_machine.specs.Told.{Noted}
 use Rattle.joint_laws.specs.RunLaws.{ProjectionIsRun, RunIsOne, ProjectionIsSound, EveryRunIsSound, ProjectionIsComplete, EveryRunIsComplete}
 use Rattle.joint_machine.proofs.Members.{Contains-nil, Contains-cons_cases}

@@ -64,14 +64,14 @@ module _ (s : Managed) (t : Thread) (c k m : ℕ) (freed : Contains s.heap.freed
 
   cell-gone : (o : Option OpenCycle) → s.cycle ≡ o → reply ≡ (cell_read s (thread_number t) c o).reply → IsGoneAfter s t k reply
   cell-gone None e r = inl (r ∙ (ap (λ o. (target_read s (thread_number t) o).reply) target ∙ gone))
-  cell-gone (Some x) e r = inr (inr (record { cycle = x; open_now = e; later = later x e; replies = r }))
+  cell-gone (Some x) e r = inr (inr (x, e, later x e, r))
 
   pub read-gone : reply ≡ (read_cell s (thread_number t) c).reply → IsGoneAfter s t k reply
   read-gone r = by (slot s.pins (thread_number t)) refl r
     where
       by : (o : Option ℕ) → slot s.pins (thread_number t) ≡ o → reply ≡ (read_by s (thread_number t) c o).reply → IsGoneAfter s t k reply
       by None e q = cell-gone s.cycle refl q
-      by (Some x) e q = inr (inl (record { object = x; pinned = e; replies = q }))
+      by (Some x) e q = inr (inl (x, e, q))
 
 -- after the resolution of cycle k, which frees the object
 pub record IsAfter (k m : ℕ) (s : Linkage) : Type 0 where

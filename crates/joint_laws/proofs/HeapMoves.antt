@@ -6,10 +6,12 @@ use Rattle.std.specs.Prelude.{Contains, if◌then◌else◌}
 use Rattle.std.proofs.Math.ListN.{length-set}
 use Rattle.std.proofs.lemmas.Bool.{cases_eq}
 use Rattle.std.proofs.lemmas.Option.{same_Some}
+use Rattle.joint_machine.specs.declared.lines.Act.{Act}
+use Rattle.joint_machine.specs.declared.lines.Act.TheVariants as act
 use Rattle.joint_machine.specs.declared.events.Reply.{Reply}
 use Rattle.joint_machine.specs.declared.events.Reply.TheVariants as says
 use Rattle.joint_machine.specs.Heaps.{Heap, InSlot, Answered, answer, slot, fields_of, with_var, with_static, with_field, copied, field_stored, field_set, read_into, field_got, dropped, loaded}
-use Rattle.joint_machine.specs.Heaps.{stored}
+use Rattle.joint_machine.specs.Heaps.{stored, place, place_or_none, heap_line}
 use Rattle.joint_machine.proofs.Numbered.{Contains-set_cases, slot-Contains}
 use Rattle.joint_machine.proofs.Deciding.{none_some}
 use Rattle.joint_laws.proofs.Fields.{with_field-same, with_field-other, with_field-length}
@@ -153,3 +155,13 @@ stored_by-moved h s v (Some x) e = HasMoved-static h s (Some x) (λ y q. inl (sl
 pub stored-moved : (h : Heap) (s : ℕ) (v : Option ℕ) → HasMoved h (stored h s v).state
 stored-moved h s None = HasMoved-static h s None (λ x e. absurd (none_some x e))
 stored-moved h s (Some v) = stored_by-moved h s v (slot h.vars v) refl
+
+-- each line that both heaps have
+pub heap_line-moved : (name : ℕ → Reply) (h : Heap) (t : ℕ) (a : Act) → HasMoved h (heap_line name h t a).state
+heap_line-moved name h t (act.Copy v w) = copied-moved name h (place t v.0) (place t w.0)
+heap_line-moved name h t (act.Set v i w) = field_set-moved h (place t v.0) i (place_or_none t w)
+heap_line-moved name h t (act.Get v w i) = field_got-moved name h (place t v.0) (place t w.0) i
+heap_line-moved name h t (act.Drop v) = dropped-moved h (place t v.0)
+heap_line-moved name h t (act.Load v x) = loaded-moved name h (place t v.0) x.0
+heap_line-moved name h t (act.Store x v) = stored-moved h x.0 (place_or_none t v)
+heap_line-moved name h t _ = HasMoved-stay h

@@ -20,11 +20,11 @@ use Rattle.joint_machine.specs.Cycles.{IsResolution, IsAnsweredAlive, resolve_re
 use Rattle.joint_machine.specs.Heaps.{Answered, place, slot}
 use Rattle.joint_machine.specs.Joint.{Joint, JointMarking, twin_of}
 use Rattle.joint_machine.specs.Lines.{IsEvent, is_peer_event}
-use Rattle.joint_machine.specs.Linked.{Linkage, SideLawful, PeerLawful, managed_after, peer_after, is_joint}
+use Rattle.joint_machine.specs.Linked.{Linkage, SideLawful, PeerLawful, managed_after, peer_after}
 use Rattle.joint_machine.specs.Managed.{Managed, OpenCycle, managed_line, adopted, met, given_up, candidates_of, resolved as resolved_state}
 use Rattle.joint_machine.specs.ManagedReplay.{ManagedReplay, MayResolve, registered, adopt_by, meet_by, give_by}
 use Rattle.joint_machine.specs.PeerReplay.{PeerReplay, row_of, restored_by, MayRestore}
-use Rattle.joint_machine.specs.Run.{JointEvent, IsComputed, on_managed}
+use Rattle.joint_machine.specs.Run.{JointEvent, on_managed, is_joint}
 use Rattle.joint_machine.specs.Told.{Told, nothing, snap_of, contraction_of, references_of, slice_of, sweep_of, resolution_of, phase_of, Answer}
 use Rattle.joint_machine.proofs.HeapLemmas.{adopt_by-managed, adopt_by-reply, candidates_of-open}
 use Rattle.joint_laws.specs.JointAgreement.{AreTold, Agrees, Flags, joint_as}
@@ -60,10 +60,6 @@ replicate-member zero a w = absurd (Contains-nil a w)
 replicate-member (suc n) a w = elim (Contains-cons_cases None (replicate n None) a w) [ inl e ↦ sym e | inr d ↦ replicate-member n a d ]
 
 -- a line that is no slice
-computed-line : (a : Act) → ((n : ℕ) → a ≡ act.Slice n → ⊥) → IsComputed (op.Line a)
-computed-line (act.Slice n) no_slice = no_slice n refl
-computed-line _ no_slice = tt
-
 joint-line : (a : Act) → ((n : ℕ) → a ≡ act.Slice n → ⊥) → is_joint (op.Line a) ≡ true
 joint-line (act.Slice n) no_slice = absurd (no_slice n refl)
 joint-line _ no_slice = refl
@@ -269,12 +265,12 @@ module _ (s : Linkage) (k : Of s) (flags : Flags) (jm : Option JointMarking) (ag
   outcome (M u) (op.Line a) told e w x after =
       let no_slice = managed-slice u a e in
       computed (M u) (op.Line a) told (record r { managed = (managed_line r.managed u a).state }) (joint-line a no_slice)
-      (managed_line-goes_on r.managed u a k.managed.managed.places k.managed.managed.cells) refl (record { computed = computed-line a no_slice; replies = w.replies; state = refl })
+      (managed_line-goes_on r.managed u a k.managed.managed.places k.managed.managed.cells) refl (record { joint = joint-line a no_slice; replies = w.replies; state = refl })
   outcome (P u) (op.Line a) told e w x after = peer-line u a told w
   outcome C (op.Line a) told e w x after =
       let no_slice = driver-slice a e in
       computed C (op.Line a) told (record r { managed = (managed_line r.managed 0 a).state }) (joint-line a no_slice)
-      (managed_line-goes_on r.managed 0 a k.managed.managed.places k.managed.managed.cells) refl (record { computed = computed-line a no_slice; replies = w.replies; state = refl })
+      (managed_line-goes_on r.managed 0 a k.managed.managed.places k.managed.managed.cells) refl (record { joint = joint-line a no_slice; replies = w.replies; state = refl })
   outcome (M u) (op.Make sort n) told e w x after = stepped (M u) (op.Make sort n) told _ _ _ refl tl (step-make r q ds d k flags jm ag u sort n reply told w.replies)
   outcome (P u) (op.Make sort n) told e w x after = absurd e.0
   outcome C (op.Make sort n) told e w x after = absurd e.0
@@ -283,10 +279,10 @@ module _ (s : Linkage) (k : Of s) (flags : Flags) (jm : Option JointMarking) (ag
       let m = adopt_by-managed r p.0 h.0 a.state a.reply in
       computed (M u) (op.Adopt v kind n p h) told (adopt_by r p.0 h.0 a.state a.reply).state refl
       (goes-as a.state _ m (adopted-goes_on r.managed (place u v.0) kind n h.0 k.managed.managed.places)) refl
-      (record { computed = tt; replies = w.replies ∙ adopt_by-reply r p.0 h.0 a.state a.reply; state = same-managed _ a.state m })
+      (record { joint = refl; replies = w.replies ∙ adopt_by-reply r p.0 h.0 a.state a.reply; state = same-managed _ a.state m })
   outcome (P u) (op.Adopt v kind n p h) told e w x after = absurd e.0
   outcome C (op.Adopt v kind n p h) told e w x after = absurd e.0
-  outcome (M u) (op.Lend v y) told e w x after = computed (M u) (op.Lend v y) told r refl (GoesOn-stay r.managed) refl (record { computed = tt; replies = w.replies; state = refl })
+  outcome (M u) (op.Lend v y) told e w x after = computed (M u) (op.Lend v y) told r refl (GoesOn-stay r.managed) refl (record { joint = refl; replies = w.replies; state = refl })
   outcome (P u) (op.Lend v y) told e w x after = absurd e.0
   outcome C (op.Lend v y) told e w x after = absurd e.0
   outcome (M u) (op.Land h y) told e w x after = stepped (M u) (op.Land h y) told _ _ _ refl tl (step-land r q ds d k flags jm ag u h y reply told w.replies)
@@ -302,7 +298,7 @@ module _ (s : Linkage) (k : Of s) (flags : Flags) (jm : Option JointMarking) (ag
       computed (M u) (op.Meet v sort n p h) told (meet_by r p.0 h.0 a.state a.reply).state refl
       (goes-as a.state _ m (met-goes_on r.managed (place u v.0) h.0 sort n (registered r.registry p.0) k.managed.managed.places (λ y f. twin-live r p.0 y k.managed f))) refl
       (record {
-        computed = tt;
+        joint = refl;
         replies = w.replies ∙ (meet_by-reply r p.0 h.0 a.state a.reply ∙ ap (λ z. (met r.managed (place u v.0) h.0 sort n z).reply) twin);
         state = same-managed _ a.state m ∙ ap (λ z. (on_managed j (met r.managed (place u v.0) h.0 sort n z)).state) twin;
       })
@@ -313,7 +309,7 @@ module _ (s : Linkage) (k : Of s) (flags : Flags) (jm : Option JointMarking) (ag
       let o = slot r.managed.heap.vars (place u v.0) in
       let m = give_by-managed r o a in
       computed (M u) (op.Give v) told (give_by r o a).state refl (goes-as a.state _ m (given_up-goes_on r.managed (place u v.0))) refl
-      (record { computed = tt; replies = w.replies ∙ give_by-reply r o a; state = same-managed _ a.state m })
+      (record { joint = refl; replies = w.replies ∙ give_by-reply r o a; state = same-managed _ a.state m })
   outcome (P u) (op.Give v) told e w x after = absurd e.0
   outcome C (op.Give v) told e w x after = absurd e.0
   outcome (M u) (op.Release h) told e w x after = stepped (M u) (op.Release h) told _ _ _ refl tl

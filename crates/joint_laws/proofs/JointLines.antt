@@ -68,7 +68,7 @@ module _ (r : ManagedReplay) (s : PeerReplay) (ds : List Doing) (d : Stand) (k :
         told_after = refl;
         marking_after = jm;
         event = record {
-          computed = tt;
+          joint = refl;
           replies = q ∙ (bring-reply (on_table s a) a.reply ∙ ap (λ t. (peer_line t s.peers u (act.WRead v g)).reply) (sym targets));
           state = joint-brought r s ds d k flags jm ag a.state a.reply ∙ ap (λ t. (on_peers j (peer_line t s.peers u (act.WRead v g))).state) (sym targets);
         };
@@ -87,12 +87,12 @@ module _ (r : ManagedReplay) (s : PeerReplay) (ds : List Doing) (d : Stand) (k :
   step-line u (act.WRead v g) reply told no_slice q = step-wread u v g reply told q
   step-line u (act.UnGlobal g) reply told no_slice q =
       let w = unglobal-by u g (slot s.peers.names g.0) reply refl (named-raw g.0) q in
-      record { flags_after = w.0; told_after = w.1; marking_after = jm; event = record { computed = tt; replies = q; state = w.2 }; agrees = w.3 }
+      record { flags_after = w.0; told_after = w.1; marking_after = jm; event = record { joint = refl; replies = q; state = w.2 }; agrees = w.3 }
   step-line u a reply told no_slice q = record {
     flags_after = more (peer_line (table_target s) s.peers u a).state;
     told_after = refl;
     marking_after = jm;
-    event = record { computed = tt; replies = q; state = refl };
+    event = record { joint = refl; replies = q; state = refl };
     agrees = agrees-peers r s ds d k flags jm ag (peer_line (table_target s) s.peers u a).state (quiet-line s u a k.peer).handles.count;
   }
 
@@ -102,7 +102,7 @@ module _ (r : ManagedReplay) (s : PeerReplay) (ds : List Doing) (d : Stand) (k :
     flags_after = more (pair_made s.peers sort n).state;
     told_after = refl;
     marking_after = jm;
-    event = record { computed = tt; replies = q; state = refl };
+    event = record { joint = refl; replies = q; state = refl };
     agrees = agrees-peers r s ds d k flags jm ag (pair_made s.peers sort n).state
         (quiet-pair (λ h. ⊥) s sort n (is_full s.peers.heap.fields || handles_full s.peers) k.peer.handles.places).handles.count;
   }
@@ -113,7 +113,7 @@ module _ (r : ManagedReplay) (s : PeerReplay) (ds : List Doing) (d : Stand) (k :
     flags_after = more (gripped s.peers x.0).state;
     told_after = refl;
     marking_after = jm;
-    event = record { computed = tt; replies = q; state = refl };
+    event = record { joint = refl; replies = q; state = refl };
     agrees = agrees-peers r s ds d k flags jm ag (gripped s.peers x.0).state (quiet-grip (λ h. ⊥) s x.0 (slot s.peers.heap.statics x.0) k.peer.handles.places refl).handles.count;
   }
 
@@ -127,7 +127,7 @@ module _ (r : ManagedReplay) (s : PeerReplay) (ds : List Doing) (d : Stand) (k :
         told_after = refl;
         marking_after = jm;
         event = record {
-          computed = tt;
+          joint = refl;
           replies = q ∙ (bring-reply (on_table s a) a.reply ∙ ap (λ o. (landed s.peers x.0 o).reply) same);
           state = joint-brought r s ds d k flags jm ag a.state a.reply ∙ ap (λ o. (on_peers j (landed s.peers x.0 o)).state) same;
         };
@@ -141,6 +141,6 @@ module _ (r : ManagedReplay) (s : PeerReplay) (ds : List Doing) (d : Stand) (k :
     flags_after = gone_flags flags h.0;
     told_after = refl;
     marking_after = jm;
-    event = record { computed = tt; replies = q; state = refl };
+    event = record { joint = refl; replies = q; state = refl };
     agrees = record { removed = flags-gone r s ds d k flags jm ag h.0; markings = ag.markings };
   }

@@ -2,9 +2,9 @@
 -- next by a step of the joint machine, or with the same joint state.
 use Rattle.std.proofs.Common.{◌≡◌, Bool, true, false, List, [], ◌∷◌, length, Option, None, refl, ap, cond}
 use Rattle.joint_machine.specs.Joint.{Joint, JointMarking, opening}
-use Rattle.joint_machine.specs.Linked.{Linkage, MayCome, opening_linkage, linkage_after, is_joint}
+use Rattle.joint_machine.specs.Linked.{Linkage, MayCome, opening_linkage, linkage_after}
 use Rattle.joint_machine.specs.Replaying.{machine_entries}
-use Rattle.joint_machine.specs.Run.{Moment, JointStep}
+use Rattle.joint_machine.specs.Run.{Moment, JointStep, is_joint}
 use Rattle.joint_machine.specs.Told.{Noted}
 use Rattle.joint_laws.specs.JointAgreement.{AreTold, Agrees, Flags, joint_as}
 use Rattle.joint_machine.specs.Joined.{answers_at}

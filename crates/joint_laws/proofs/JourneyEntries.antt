@@ -16,11 +16,11 @@ use Rattle.joint_machine.specs.Control.{MaySweepNow, MayRestoreNow, MayClearNow,
 use Rattle.joint_machine.specs.Cycles.{IsResolution, IsAnsweredAlive}
 use Rattle.joint_machine.specs.Headline.{IsCompleteCycle}
 use Rattle.joint_machine.specs.Lines.{IsEvent}
-use Rattle.joint_machine.specs.Linked.{Linkage, MayCome, linkage_after, is_joint}
+use Rattle.joint_machine.specs.Linked.{Linkage, MayCome, linkage_after}
 use Rattle.joint_machine.specs.Managed.{OpenCycle, candidates_of}
 use Rattle.joint_machine.specs.ManagedReplay.{MayResolve}
 use Rattle.joint_machine.specs.PeerReplay.{Marking, begun, swept, SweepAllows}
-use Rattle.joint_machine.specs.Run.{Moment}
+use Rattle.joint_machine.specs.Run.{Moment, is_joint}
 use Rattle.joint_machine.specs.Told.{Told, Noted, snap_of, contraction_of, sweep_of, resolution_of, Answer}
 use Rattle.joint_laws.specs.LinkedInvariants.{DriverInvariant}
 use Rattle.joint_laws.proofs.AtResolutions.{complete-cycle}

@@ -8,10 +8,10 @@ use Rattle.joint_machine.specs.declared.lines.Act.TheVariants as act
 use Rattle.joint_machine.specs.declared.events.Reply.{Reply}
 use Rattle.joint_machine.specs.declared.events.Reply.TheVariants as says
 use Rattle.joint_machine.specs.Heaps.{Heap, IsMade, IsLive, Answered, answer, slot, is_freed, is_full, next_number, place, with_var}
-use Rattle.joint_machine.specs.Managed.{Managed, OpenCycle, IsManagedRoot, managed_name, with_row, cell_set, target_read, cell_read, place_or_none, managed_line, notices_taken}
+use Rattle.joint_machine.specs.Managed.{Managed, OpenCycle, IsManagedRoot, managed_name, with_row, cell_set, target_read, cell_read, managed_line, notices_taken}
 use Rattle.joint_machine.proofs.Numbered.{slot-Contains}
 use Rattle.joint_machine.proofs.HeapLemmas.{not_freed}
-use Rattle.joint_laws.proofs.HeapMoves.{HasMoved, copied-moved, field_set-moved, field_got-moved, dropped-moved, loaded-moved, stored-moved}
+use Rattle.joint_laws.proofs.HeapMoves.{HasMoved, heap_line-moved}
 
 -- the kinds of change: none; an operation of the heap alone; a further row without a handle; a cell comes to name what
 -- a slot names; a pin comes to hold an unfreed row, while no cycle is open; a variable comes to name what a pin held;
@@ -70,16 +70,10 @@ module _ (s : Managed) (P : Managed → Type 0) (k : LineKeeps s P) where
 
   pub managed_line-keeps : ((x : ℕ) → Contains s.cells (Some x) → IsMade s.heap x) → (t : ℕ) (a : Act) → P (managed_line s t a).state
   managed_line-keeps m t (act.New v kind n) = if_full s P (is_full s.heap.fields) (managed_name (next_number s.heap)) (with_row s (place t v.0) kind n None) k.stay (k.row (place t v.0) kind n)
-  managed_line-keeps m t (act.Copy v w) = k.on_heap _ (copied-moved managed_name s.heap (place t v.0) (place t w.0))
-  managed_line-keeps m t (act.Set v i w) = k.on_heap _ (field_set-moved s.heap (place t v.0) i (place_or_none t w))
-  managed_line-keeps m t (act.Get v w i) = k.on_heap _ (field_got-moved managed_name s.heap (place t v.0) (place t w.0) i)
-  managed_line-keeps m t (act.Drop v) = k.on_heap _ (dropped-moved s.heap (place t v.0))
-  managed_line-keeps m t (act.Load v x) = k.on_heap _ (loaded-moved managed_name s.heap (place t v.0) x.0)
-  managed_line-keeps m t (act.Store x v) = k.on_heap _ (stored-moved s.heap x.0 (place_or_none t v))
   managed_line-keeps m t (act.Weak i v) = weakened_by-keeps i.0 (place t v.0) (slot s.heap.vars (place t v.0)) refl
   managed_line-keeps m t (act.Read i) = read_by-keeps t i.0 (slot s.pins t) m
   managed_line-keeps m t (act.Await i) = read_by-keeps t i.0 (slot s.pins t) m
   managed_line-keeps m t (act.Take v) = taken_by-keeps t (place t v.0) (slot s.pins t) refl
   managed_line-keeps m t (act.Handle v) = k.stay
   managed_line-keeps m t (act.Finalise n) = k.notices n
-  managed_line-keeps m t _ = k.stay
+  managed_line-keeps m t a = k.on_heap _ (heap_line-moved managed_name s.heap t a)

@@ -14,11 +14,11 @@ use Rattle.joint_machine.specs.declared.events.Reply.{Reply}
 use Rattle.joint_machine.specs.declared.events.Reply.TheVariants as says
 use Rattle.joint_machine.specs.Control.{Stand, idle, snapped, contracted, weakening, marked, restoring, restored, CallerAllows, DriverAllows, MayResolveNow, MayBeginNow, control_after, stand_after}
 use Rattle.joint_machine.specs.Lines.{IsEvent, is_peer_event}
-use Rattle.joint_machine.specs.Linked.{Linkage, MayCome, SideLawful, ManagedLawful, opening_linkage, linkage_after, is_joint}
+use Rattle.joint_machine.specs.Linked.{Linkage, MayCome, SideLawful, ManagedLawful, opening_linkage, linkage_after}
 use Rattle.joint_machine.specs.Replaying.{AllMayCome, machine_entries}
 use Rattle.joint_machine.specs.Managed.{Managed, OpenCycle}
 use Rattle.joint_machine.specs.Peers.{Issued}
-use Rattle.joint_machine.specs.Run.{Moment, IsRun}
+use Rattle.joint_machine.specs.Run.{Moment, IsRun, is_joint}
 use Rattle.joint_machine.specs.Told.{Told, contraction_of, snap_of, resolution_of, Noted}
 use Rattle.joint_laws.specs.LinkedInvariants.{DriverInvariant}
 use Rattle.joint_laws.specs.OwnMarkingLaws.{DriverBegins, HasOneBegin, OwnMarkingIsOne, RunMarksOnce}

@@ -10,14 +10,13 @@ use Rattle.joint_machine.specs.declared.lines.Act.TheVariants as act
 use Rattle.joint_machine.specs.declared.events.Reply.{Reply}
 use Rattle.joint_machine.specs.declared.events.Reply.TheVariants as says
 use Rattle.joint_machine.specs.Heaps.{Heap, IsLive, InSlot, Answered, answer, slot, place, is_full, next_number, numbered_at, numbered_set, with_var, with_static}
-use Rattle.joint_machine.specs.Managed.{place_or_none}
 use Rattle.joint_machine.specs.Peers.{Peers, Issued, held, raw, Strength, strong, weak, peer_name, handle_name, next_handle, with_handle, with_peer, peer_gripped, landed, name_given, peer_read}
 use Rattle.joint_machine.specs.Peers.{peer_of, issued_since, handles_full}
 use Rattle.joint_machine.specs.PeerReplay.{PeerReplay, TableRow, fresh_row, row_of, table_target, on_table, brings, untabled, peer_thread_line, brought_to}
 use Rattle.joint_laws.specs.PeerInvariants.{IsIssued, PeerInvariant}
 use Rattle.joint_machine.proofs.Numbered.{slot-Contains, slot-named, numbered-push_new}
 use Rattle.joint_machine.proofs.Deciding.{none_some}
-use Rattle.joint_laws.proofs.HeapMoves.{HasMoved, copied-moved, field_set-moved, field_got-moved, dropped-moved, loaded-moved, stored-moved}
+use Rattle.joint_laws.proofs.HeapMoves.{HasMoved, heap_line-moved}
 use Rattle.joint_laws.proofs.PeerMoves.{in_reach-safe, kept-heap, kept-peer, new-live, new-safe, kept-var, kept-static, kept-issue, kept-counted, kept-name, kept-gone, kept-brought, brought-safe}
 use Rattle.joint_laws.proofs.PeerMoves.{on_table-still, on_table-issued}
 
@@ -139,14 +138,8 @@ wread-event s v (Some h) k = read-event s v h (table_target s h) k refl
 -- the events of a peer thread's lines that are one event
 pub line-event : (s : PeerReplay) (t : ℕ) (a : Act) → PeerInvariant s → PeerInvariant (peer_thread_line s t a).state
 line-event s t (act.NewPeer v n) k = made-event s (place t v.0) n (is_full s.peers.heap.fields) k
-line-event s t (act.Copy v w) k = heap-event s _ k (copied-moved peer_name s.peers.heap (place t v.0) (place t w.0))
-line-event s t (act.Set v i w) k = heap-event s _ k (field_set-moved s.peers.heap (place t v.0) i (place_or_none t w))
-line-event s t (act.Get v w i) k = heap-event s _ k (field_got-moved peer_name s.peers.heap (place t v.0) (place t w.0) i)
-line-event s t (act.Drop v) k = heap-event s _ k (dropped-moved s.peers.heap (place t v.0))
-line-event s t (act.Load v x) k = heap-event s _ k (loaded-moved peer_name s.peers.heap (place t v.0) x.0)
-line-event s t (act.Store x v) k = heap-event s _ k (stored-moved s.peers.heap x.0 (place_or_none t v))
 line-event s t (act.Global g v) k = global-event s g.0 (place t v.0) strong (slot s.peers.heap.vars (place t v.0)) k refl
 line-event s t (act.WGlobal g v) k = global-event s g.0 (place t v.0) weak (slot s.peers.heap.vars (place t v.0)) k refl
 line-event s t (act.UnGlobal g) k = unglobal-event s g.0 (slot s.peers.names g.0) k
 line-event s t (act.WRead v g) k = wread-event s (place t v.0) (slot s.peers.names g.0) k
-line-event s t _ k = stay-event s says.Ok k
+line-event s t a k = heap-event s _ k (heap_line-moved peer_name s.peers.heap t a)

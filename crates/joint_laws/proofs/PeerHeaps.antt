@@ -18,7 +18,6 @@ use Rattle.joint_machine.specs.declared.events.Made.{Made}
 use Rattle.joint_machine.specs.Heaps.{Heap, IsMade, IsLive, InSlot, Answered, answer, slot, place, fields_of, is_full, next_number, with_var, with_static, with_object, with_freed}
 use Rattle.joint_machine.specs.Lines.{is_peer_event}
 use Rattle.joint_machine.specs.Linked.{Linkage, linkage_after, peer_after}
-use Rattle.joint_machine.specs.Managed.{place_or_none}
 use Rattle.joint_machine.specs.Peers.{Peers, Strength, strong, weak, held, raw, peer_name, with_peer, with_handle, peer_gripped, landed, name_given, peer_read, peer_line, handle_name, next_handle}
 use Rattle.joint_machine.specs.Peers.{sort_of, handles_full}
 use Rattle.joint_machine.specs.PeerReplay.{PeerReplay, TableRow, Marking, row_of, on_table, bring_by, peer_thread_line, is_thread, sliced, begun, swept_of, swept, restored_by, mirrored, peer_answer}
@@ -26,7 +25,7 @@ use Rattle.joint_machine.specs.PeerReplay.{table_target}
 use Rattle.joint_machine.specs.Run.{thread_number}
 use Rattle.joint_machine.specs.Told.{Told, Noted, references_of, slice_of, sweep_of}
 use Rattle.joint_laws.proofs.Fields.{with_object-old, with_object-length}
-use Rattle.joint_laws.proofs.HeapMoves.{HasMoved, copied-moved, field_set-moved, field_got-moved, dropped-moved, loaded-moved, stored-moved}
+use Rattle.joint_laws.proofs.HeapMoves.{HasMoved, heap_line-moved}
 use Rattle.joint_laws.proofs.HeapKeeping.{object-field, object-was_live, moved-was_live}
 use Rattle.joint_laws.proofs.JointSteps.{bring-peers}
 use Rattle.joint_laws.proofs.PeerEvents.{globalised_by, freed_by, read_by}
@@ -140,18 +139,12 @@ module _ (s : PeerReplay) where
 
   line-goes : (t : ℕ) (a : Act) → Goes s (peer_thread_line s t a).state
   line-goes t (act.NewPeer v n) = made-goes (place t v.0) n (is_full s.peers.heap.fields)
-  line-goes t (act.Copy v w) = goes-moved _ _ (copied-moved peer_name s.peers.heap (place t v.0) (place t w.0))
-  line-goes t (act.Set v i w) = goes-moved _ _ (field_set-moved s.peers.heap (place t v.0) i (place_or_none t w))
-  line-goes t (act.Get v w i) = goes-moved _ _ (field_got-moved peer_name s.peers.heap (place t v.0) (place t w.0) i)
-  line-goes t (act.Drop v) = goes-moved _ _ (dropped-moved s.peers.heap (place t v.0))
-  line-goes t (act.Load v x) = goes-moved _ _ (loaded-moved peer_name s.peers.heap (place t v.0) x.0)
-  line-goes t (act.Store x v) = goes-moved _ _ (stored-moved s.peers.heap x.0 (place_or_none t v))
   line-goes t (act.Global g v) = global-goes g.0 strong (slot s.peers.heap.vars (place t v.0))
   line-goes t (act.WGlobal g v) = global-goes g.0 weak (slot s.peers.heap.vars (place t v.0))
   line-goes t (act.UnGlobal g) = unglobal-goes g.0 (slot s.peers.names g.0)
   line-goes t (act.WRead v g) = brought-goes (on_table s (peer_line (table_target s) s.peers t (act.WRead v g)))
       (peer_line (table_target s) s.peers t (act.WRead v g)).reply (wread-goes (place t v.0) (slot s.peers.names g.0))
-  line-goes t _ = goes-stay s.peers.heap
+  line-goes t a = goes-moved _ _ (heap_line-moved peer_name s.peers.heap t a)
 
   pair-goes : (b : Bool) (n : ℕ) (sort : Sort) (r : Reply) → HeapGoes s.peers.heap
       (if b then answer says.Full s.peers else answer r (with_handle (with_peer s.peers sort n) (next_number s.peers.heap) held strong)).state.heap

@@ -10,7 +10,6 @@ use Rattle.joint_machine.specs.declared.lines.Act.TheVariants as act
 use Rattle.joint_machine.specs.declared.events.Reply.{Reply}
 use Rattle.joint_machine.specs.declared.events.Reply.TheVariants as says
 use Rattle.joint_machine.specs.Heaps.{Heap, IsMade, InSlot, answer, slot, place, is_full, next_number, numbered_set, with_var, with_static, with_object}
-use Rattle.joint_machine.specs.Managed.{place_or_none}
 use Rattle.joint_machine.specs.Peers.{Issued, held, raw, Strength, strong, weak, peer_name, handle_name, next_handle, with_handle, with_peer, peer_gripped, landed, name_given, peer_read, issued_since}
 use Rattle.joint_machine.specs.Peers.{handles_full}
 use Rattle.joint_machine.specs.PeerReplay.{PeerReplay, Marking, fresh_row, table_target, on_table, brings, untabled, peer_thread_line, is_thread, sliced, begun, brought_to}
@@ -18,7 +17,7 @@ use Rattle.joint_laws.specs.PeerInvariants.{IsIssued, PeerInvariant}
 use Rattle.joint_machine.proofs.Numbered.{slot-Contains, Contains-set_cases}
 use Rattle.joint_machine.proofs.Deciding.{none_some}
 use Rattle.joint_laws.proofs.Fields.{with_object-length}
-use Rattle.joint_laws.proofs.HeapMoves.{HasMoved, IsInReach, HasMoved-stay, copied-moved, field_set-moved, field_got-moved, dropped-moved, loaded-moved, stored-moved}
+use Rattle.joint_laws.proofs.HeapMoves.{HasMoved, IsInReach, HasMoved-stay, heap_line-moved}
 use Rattle.joint_laws.proofs.HeapKeeping.{object-field}
 use Rattle.joint_laws.proofs.PeerEvents.{globalised_by, freed_by, read_by}
 use Rattle.joint_laws.proofs.PeerQuiet.{IsQuiet, HandlesAlike-same, HandlesAlike-raw_gone, table-still, StillOpen, StillOpen-same, StillOpen-brought, SlotsFrom, FieldsFrom, IsQuiet-still}
@@ -191,14 +190,8 @@ named-raw s g k h e = k.handles.named h (slot-Contains s.peers.names g h e)
 
 pub quiet-line : (s : PeerReplay) (t : ℕ) (a : Act) → PeerInvariant s → IsQuiet (IsRawOne s) s (peer_thread_line s t a).state
 quiet-line s t (act.NewPeer v n) k = quiet-made (IsRawOne s) s (place t v.0) n (is_full s.peers.heap.fields)
-quiet-line s t (act.Copy v w) k = quiet-heap (IsRawOne s) s _ (copied-moved peer_name s.peers.heap (place t v.0) (place t w.0))
-quiet-line s t (act.Set v i w) k = quiet-heap (IsRawOne s) s _ (field_set-moved s.peers.heap (place t v.0) i (place_or_none t w))
-quiet-line s t (act.Get v w i) k = quiet-heap (IsRawOne s) s _ (field_got-moved peer_name s.peers.heap (place t v.0) (place t w.0) i)
-quiet-line s t (act.Drop v) k = quiet-heap (IsRawOne s) s _ (dropped-moved s.peers.heap (place t v.0))
-quiet-line s t (act.Load v x) k = quiet-heap (IsRawOne s) s _ (loaded-moved peer_name s.peers.heap (place t v.0) x.0)
-quiet-line s t (act.Store x v) k = quiet-heap (IsRawOne s) s _ (stored-moved s.peers.heap x.0 (place_or_none t v))
 quiet-line s t (act.Global g v) k = quiet-global (IsRawOne s) s g.0 (place t v.0) strong (slot s.peers.heap.vars (place t v.0)) k.handles.places refl
 quiet-line s t (act.WGlobal g v) k = quiet-global (IsRawOne s) s g.0 (place t v.0) weak (slot s.peers.heap.vars (place t v.0)) k.handles.places refl
 quiet-line s t (act.UnGlobal g) k = quiet-unglobal (IsRawOne s) s g.0 (slot s.peers.names g.0) (named-raw s g.0 k)
 quiet-line s t (act.WRead v g) k = quiet-wread (IsRawOne s) s (place t v.0) (slot s.peers.names g.0) (named-raw s g.0 k)
-quiet-line s t _ k = quiet-stay (IsRawOne s) s says.Ok
+quiet-line s t a k = quiet-heap (IsRawOne s) s _ (heap_line-moved peer_name s.peers.heap t a)

@@ -11,8 +11,8 @@ use Rattle.joint_machine.specs.declared.lines.Act.{Act}
 use Rattle.joint_machine.specs.declared.lines.Act.TheVariants as act
 use Rattle.joint_machine.specs.declared.events.Reply.{Reply}
 use Rattle.joint_machine.specs.declared.events.Reply.TheVariants as says
-use Rattle.joint_machine.specs.Heaps.{Heap, Answered, answer, slot, place, fields_of, is_freed, is_full, copied, field_set, field_stored, field_got, read_into, stored}
-use Rattle.joint_machine.specs.Managed.{Managed, OpenCycle, managed_name, handle_of, adopted, cell_set, target_read, cell_read, read_cell, handle_reply, twin_met, met, place_or_none, managed_line}
+use Rattle.joint_machine.specs.Heaps.{Heap, Answered, answer, slot, place, fields_of, is_freed, is_full, copied, field_set, field_stored, field_got, read_into, stored, place_or_none, heap_line}
+use Rattle.joint_machine.specs.Managed.{Managed, OpenCycle, managed_name, handle_of, adopted, cell_set, target_read, cell_read, read_cell, handle_reply, twin_met, met, managed_line}
 use Rattle.joint_machine.specs.ManagedReplay.{open_reply, refusal_to}
 use Rattle.joint_machine.specs.Peers.{Peers, Strength, peer_name, pair_made, peer_gripped, gripped, landed, name_given, globalised, peer_read, handles_full, peer_line}
 use Rattle.joint_machine.specs.PeerReplay.{PeerReplay, Marking, TableRow, is_thread, sliced, begun, restored_by}
@@ -52,6 +52,14 @@ module _ (name : ℕ → Reply) (named : (x : ℕ) → IsPlain (name x)) (h : He
   stored-plain : (s : ℕ) (v : Option ℕ) → SaysPlain (stored h s v)
   stored-plain s None = tt
   stored-plain s (Some v) = option-cases SaysPlain _ _ (slot h.vars v) tt (λ x. tt)
+
+  heap_line-plain : (t : ℕ) (a : Act) → SaysPlain (heap_line name h t a)
+  heap_line-plain t (act.Copy v w) = copied-plain (place t v.0) (place t w.0)
+  heap_line-plain t (act.Set v i w) = set-plain (place t v.0) i (place_or_none t w)
+  heap_line-plain t (act.Get v w i) = got-plain (place t v.0) (place t w.0) i
+  heap_line-plain t (act.Load v x) = into-plain (place t v.0) (slot h.statics x.0)
+  heap_line-plain t (act.Store x v) = stored-plain x.0 (place_or_none t v)
+  heap_line-plain t _ = tt
 
 -- the managed side
 module _ (s : Managed) where
@@ -94,18 +102,13 @@ module _ (s : Managed) where
 
   pub line-plain : (t : ℕ) (a : Act) → TakesNone a → SaysPlain (managed_line s t a)
   line-plain t (act.New v kind n) e = test-cases SaysPlain (is_full s.heap.fields) _ _ tt tt
-  line-plain t (act.Copy v w) e = copied-plain managed_name (λ x. tt) s.heap (place t v.0) (place t w.0)
-  line-plain t (act.Set v i w) e = set-plain managed_name (λ x. tt) s.heap (place t v.0) i (place_or_none t w)
-  line-plain t (act.Get v w i) e = got-plain managed_name (λ x. tt) s.heap (place t v.0) (place t w.0) i
-  line-plain t (act.Load v x) e = into-plain managed_name (λ y. tt) s.heap (place t v.0) (slot s.heap.statics x.0)
-  line-plain t (act.Store x v) e = stored-plain managed_name (λ y. tt) s.heap x.0 (place_or_none t v)
   line-plain t (act.Weak k v) e = option-cases SaysPlain _ _ (slot s.heap.vars (place t v.0)) tt (λ x. cell-plain k.0 x (slot s.cells k.0))
   line-plain t (act.Read k) e = read-plain t k.0
   line-plain t (act.Await k) e = read-plain t k.0
   line-plain t (act.Take v) e = option-cases SaysPlain _ _ (slot s.pins t) tt (λ x. tt)
   line-plain t (act.Handle v) e = handle-plain (place t v.0)
   line-plain t (act.Finalise n) e = absurd e
-  line-plain t _ e = tt
+  line-plain t a e = heap_line-plain managed_name (λ x. tt) s.heap t a
 
   open_reply-plain : (o : Option OpenCycle) → IsPlain (open_reply o)
   open_reply-plain None = tt
@@ -145,16 +148,11 @@ module _ (s : Peers) where
 
   pub peer_line-plain : (target : ℕ → Option ℕ) (t : ℕ) (a : Act) → SaysPlain (peer_line target s t a)
   peer_line-plain target t (act.NewPeer v n) = test-cases SaysPlain (is_full s.heap.fields) _ _ tt tt
-  peer_line-plain target t (act.Copy v w) = copied-plain peer_name (λ x. tt) s.heap (place t v.0) (place t w.0)
-  peer_line-plain target t (act.Set v i w) = set-plain peer_name (λ x. tt) s.heap (place t v.0) i (place_or_none t w)
-  peer_line-plain target t (act.Get v w i) = got-plain peer_name (λ x. tt) s.heap (place t v.0) (place t w.0) i
-  peer_line-plain target t (act.Load v x) = into-plain peer_name (λ y. tt) s.heap (place t v.0) (slot s.heap.statics x.0)
-  peer_line-plain target t (act.Store x v) = stored-plain peer_name (λ y. tt) s.heap x.0 (place_or_none t v)
   peer_line-plain target t (act.Global g v) = global-plain g.0 (place t v.0) _
   peer_line-plain target t (act.WGlobal g v) = global-plain g.0 (place t v.0) _
   peer_line-plain target t (act.UnGlobal g) = option-cases SaysPlain _ _ (slot s.names g.0) tt (λ h. tt)
   peer_line-plain target t (act.WRead v g) = option-cases SaysPlain _ _ (slot s.names g.0) tt (λ h. peer_read-plain (place t v.0) (target h))
-  peer_line-plain target t _ = tt
+  peer_line-plain target t a = heap_line-plain peer_name (λ x. tt) s.heap t a
 
 module _ (s : PeerReplay) where
   pub sliced-plain : (x : Option Marking) (t : Thread) (n : ℕ) (closure : List ℕ) → SaysPlain (sliced s x t n closure)

@@ -19,14 +19,14 @@ use Rattle.joint_machine.specs.Control.{Doing, free, made, lent, gripped, given,
 use Rattle.joint_machine.specs.Control.{last_line, caller_place, stand_after}
 use Rattle.joint_machine.specs.Heaps.{Answered, answer, slot, is_freed}
 use Rattle.joint_machine.specs.Lines.{is_peer_event, is_read}
-use Rattle.joint_machine.specs.Linked.{Linkage, opening_linkage, linkage_after, MayCome, SideLawful, PeerLawful, ManagedLawful, managed_after, peer_after, is_joint}
+use Rattle.joint_machine.specs.Linked.{Linkage, opening_linkage, linkage_after, MayCome, SideLawful, PeerLawful, ManagedLawful, managed_after, peer_after}
 use Rattle.joint_machine.specs.Replaying.{AllMayCome, machine_entries, replayed}
 use Rattle.joint_machine.specs.LinkedHistories.{joint_projection}
 use Rattle.joint_machine.specs.Managed.{Managed, OpenCycle, managed_name, target_read, cell_read, read_cell, managed_line}
 use Rattle.joint_machine.specs.ManagedReplay.{ManagedReplay, ManagedAllows}
 use Rattle.joint_machine.specs.PeerReplay.{PeerReplay}
 use Rattle.joint_machine.specs.Readers.{is_set_aside, is_aside, IsReadReply, pins_after, reader_after, ReaderMayCome, EntryMayCome, entry_after, replayed_reading, AllMayComeReading}
-use Rattle.joint_machine.specs.Run.{IsRun, thread_number}
+use Rattle.joint_machine.specs.Run.{IsRun, thread_number, is_joint}
 use Rattle.joint_machine.specs.Told.{Told, Noted}
 use Rattle.joint_laws.specs.ReadingLaws.{without_aside, IsLawfulReading, ReadingIsLawful, ReadingLeadsToSame, ReadingProjectsSo, ReadingProjectionIsComplete, LinkedIsComplete}
 use Rattle.joint_laws.specs.ReadingLaws.{EveryReadingRunIsComplete}

@@ -6,9 +6,9 @@ use Rattle.std.specs.Prelude.{slice_get}
 use Rattle.std.proofs.lemmas.Option.{same_Some}
 use Rattle.joint_machine.specs.Joined.{graph_at}
 use Rattle.joint_machine.specs.Joint.{Joint, Graph, opening}
-use Rattle.joint_machine.specs.Linked.{Linkage, opening_linkage, linkage_after, is_joint}
+use Rattle.joint_machine.specs.Linked.{Linkage, opening_linkage, linkage_after}
 use Rattle.joint_machine.specs.Replaying.{AllMayCome, machine_entries, replayed}
-use Rattle.joint_machine.specs.Run.{Moment, JointStep, IsRunFrom}
+use Rattle.joint_machine.specs.Run.{Moment, JointStep, IsRunFrom, is_joint}
 use Rattle.joint_machine.specs.Told.{Noted}
 use Rattle.joint_machine.proofs.Deciding.{none_some}
 use Rattle.joint_laws.specs.RunStateLaws.{StepsHaveMoments, OthersKeepGraph}

@@ -5,10 +5,10 @@ use Rattle.std.specs.Prelude.{Contains, slice_get}
 use Rattle.std.proofs.lemmas.Bool.{cases_lt}
 use Rattle.std.proofs.lemmas.Option.{same_Some}
 use Rattle.joint_machine.specs.Joint.{Joint, JointMarking, opening, Graph, Row, object, peer, JointEdge, IsJointRoot, IsReached}
-use Rattle.joint_machine.specs.Linked.{Linkage, opening_linkage, linkage_after, is_joint}
+use Rattle.joint_machine.specs.Linked.{Linkage, opening_linkage, linkage_after}
 use Rattle.joint_machine.specs.Replaying.{AllMayCome, machine_entries}
 use Rattle.joint_machine.specs.PeerReplay.{Marking}
-use Rattle.joint_machine.specs.Run.{Moment, IsRun}
+use Rattle.joint_machine.specs.Run.{Moment, IsRun, is_joint}
 use Rattle.joint_machine.specs.Told.{Noted}
 use Rattle.joint_machine.specs.Walks.{Reaches}
 use Rattle.joint_machine.proofs.Deciding.{none_some}

@@ -53,22 +53,11 @@ pub record ReadsPeer (s : PeerReplay) (n : Noted) (p : ℕ) : Type 0 where
   pub named : slot s.peers.names name.0 ≡ Some handle
   pub leads : peer_of s.peers.issued handle ≡ Some p
 
--- the thread's pin is filled, and the reply names what it holds
-pub record SaysPinned (s : Managed) (t : Thread) (reply : Reply) : Type 0 where
-  pub object : ℕ
-  pub pinned : slot s.pins (thread_number t) ≡ Some object
-  pub replies : reply ≡ says.Pinned record { 0 = object }
-
--- a later cycle than k is open, and the reply names it
-pub record SaysLater (s : Managed) (k : ℕ) (reply : Reply) : Type 0 where
-  pub cycle : OpenCycle
-  pub open_now : s.cycle ≡ Some cycle
-  pub later : k < cycle.number
-  pub replies : reply ≡ says.Pending record { 0 = cycle.number }
-
--- the reply is gone, unless the thread's pin is filled or a later cycle is open
+-- the reply is gone, unless it names what the thread's pin holds, or a later cycle than k that is open
 abbrev pub IsGoneAfter : Managed → Thread → ℕ → Reply → Type 0
-IsGoneAfter s t k reply = (reply ≡ says.Gone) ⊎ SaysPinned s t reply ⊎ SaysLater s k reply
+IsGoneAfter s t k reply = (reply ≡ says.Gone)
+    ⊎ ((m : ℕ) × (slot s.pins (thread_number t) ≡ Some m) × (reply ≡ says.Pinned record { 0 = m }))
+    ⊎ ((c : OpenCycle) × (s.cycle ≡ Some c) × (k < c.number) × (reply ≡ says.Pending record { 0 = c.number }))
 
 -- no entry between two places mirrors a cycle
 abbrev pub NoMirrorBetween : List Noted → ℕ → ℕ → Type 0

@@ -2,9 +2,9 @@
 -- its run.
 use Rattle.std.specs.Prelude.{◌≡◌, ℕ, suc, ◌≤◌, true, false, List, length, take, Some, None, slice_get}
 use Rattle.joint_machine.specs.Joint.{Row, peer, JointEdge, IsReached}
-use Rattle.joint_machine.specs.Linked.{opening_linkage, is_joint}
+use Rattle.joint_machine.specs.Linked.{opening_linkage}
 use Rattle.joint_machine.specs.Replaying.{AllMayCome, machine_entries}
-use Rattle.joint_machine.specs.Run.{Moment, IsRun}
+use Rattle.joint_machine.specs.Run.{Moment, IsRun, is_joint}
 use Rattle.joint_machine.specs.Told.{Noted}
 use Rattle.joint_machine.specs.PeerReplay.{Marking, MarkingEdge}
 use Rattle.joint_laws.specs.UnionLaws.{graph_in, BeginsMarking}

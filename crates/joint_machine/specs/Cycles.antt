@@ -5,7 +5,7 @@
 use Rattle.std.specs.Prelude.{◌≡◌, ℕ, ◌+◌, ◌↔◌, List, length, Contains, Some, None, slice_get}
 use Rattle.joint_machine.specs.declared.events.Reply.{Reply}
 use Rattle.joint_machine.specs.declared.events.Reply.TheVariants as says
-use Rattle.joint_machine.specs.Heaps.{IsLive, HasField}
+use Rattle.joint_machine.specs.Heaps.{IsLive, HasField, freed_span}
 use Rattle.joint_machine.specs.Managed.{Managed, OpenCycle, IsBridge, ManagedEdge, IsManagedReached, IsBridgeReached}
 use Rattle.joint_machine.specs.Components.{Rises, IsContraction}
 use Rattle.joint_machine.specs.Walks.{Reaches}
@@ -26,8 +26,7 @@ pub record IsSnapshot (s : Managed) (k : ℕ) (freed candidates dead : List ℕ)
 
 -- a snapshot's reply: the number of candidates, and where the freed rows stand in the list of freed ones
 abbrev pub snap_reply : Managed → List ℕ → List ℕ → Reply
-snap_reply s freed candidates = says.Snapped (length candidates)
-    record { first = length s.heap.freed; count = length freed }
+snap_reply s freed candidates = says.Snapped (length candidates) (freed_span s.heap freed)
 
 -- one row of the dead part has another in a field
 abbrev pub DeadEdge : Managed → List ℕ → ℕ → ℕ → Type 0
@@ -46,7 +45,7 @@ pub record IsResolution (s : Managed) (dead : List ℕ) (kept : ℕ → Type 0) 
 
 -- a resolution's reply: where the freed rows stand in the list of freed ones
 abbrev pub resolve_reply : Managed → List ℕ → Reply
-resolve_reply s freed = says.Freed record { first = length s.heap.freed; count = length freed }
+resolve_reply s freed = says.Freed (freed_span s.heap freed)
 
 -- the candidate is kept by the list of answers
 abbrev pub IsAnsweredAlive : List ℕ → List Answer → ℕ → Type 0

@@ -5,6 +5,10 @@
 use Rattle.std.specs.Prelude.{ℕ, zero, suc, ◌+◌, ◌*◌, ◌≤◌, ◌⊎◌, Bool, nat_le, nat_eq, if◌then◌else◌, List, [], ◌∷◌}
 use Rattle.std.specs.Prelude.{◌++◌, length, replicate, slice_get, slice_set, Contains, Option, Some, None}
 use Rattle.std.specs.List.{list_any}
+use Rattle.joint_machine.specs.declared.names.Span.{Span}
+use Rattle.joint_machine.specs.declared.names.Var.{Var}
+use Rattle.joint_machine.specs.declared.lines.Act.{Act}
+use Rattle.joint_machine.specs.declared.lines.Act.TheVariants as act
 use Rattle.joint_machine.specs.declared.events.Reply.{Reply}
 use Rattle.joint_machine.specs.declared.events.Reply.TheVariants as says
 use Rattle.joint_machine.specs.declared.names.TheConstants.{VARS, STATICS}
@@ -99,6 +103,10 @@ with_object h n = record h { fields = h.fields ++ replicate n None ∷ [] }
 abbrev pub with_freed : Heap → List ℕ → Heap
 with_freed h xs = record h { freed = h.freed ++ xs }
 
+-- where objects that are freed next stand in the list of freed ones
+abbrev pub freed_span : Heap → List ℕ → Span
+freed_span h xs = record { first = length h.freed; count = length xs }
+
 -- a reply, and the state after it
 pub record Answered (S : Type 0) : Type 0 where
   pub reply : Reply
@@ -107,24 +115,29 @@ pub record Answered (S : Type 0) : Type 0 where
 abbrev pub answer : {S : Type 0} → Reply → S → Answered S
 answer r s = record { reply = r; state = s }
 
+-- what stands for the answer where an operation doesn't come: one that no event answers here, so that an operation that
+-- was forgotten is refused
+abbrev pub not_here : {S : Type 0} → S → Answered S
+not_here s = answer says.NoMark s
+
+-- the answer where there may be no object: `empty`, and nothing changes
+abbrev pub of_object : {S : Type 0} → S → Option ℕ → (ℕ → Answered S) → Answered S
+of_object s o f = elim o [ None ↦ answer says.Empty s | Some x ↦ f x ]
+
 -- `copy V W`: V names W's object. In these operations `name` is how a reply names an object, and variables
 -- go by their places.
 abbrev pub copied : (ℕ → Reply) → Heap → ℕ → ℕ → Answered Heap
-copied name h v w = elim (slot h.vars w)
-    [ None ↦ answer says.Empty h | Some x ↦ answer (name x) (with_var h v (Some x)) ]
+copied name h v w = of_object h (slot h.vars w) (λ x. answer (name x) (with_var h v (Some x)))
 
 -- field i of object x gets the object of the variable at a place, or nothing
 abbrev pub field_stored : Heap → ℕ → ℕ → Option ℕ → Answered Heap
 field_stored h x i None = answer says.Ok (with_field h x i None)
-field_stored h x i (Some w) = elim (slot h.vars w)
-    [ None ↦ answer says.Empty h | Some y ↦ answer says.Ok (with_field h x i (Some y)) ]
+field_stored h x i (Some w) = of_object h (slot h.vars w) (λ y. answer says.Ok (with_field h x i (Some y)))
 
 -- `set V I W`: field I of V's object holds W's object, or nothing
 abbrev pub field_set : Heap → ℕ → ℕ → Option ℕ → Answered Heap
-field_set h v i w = elim (slot h.vars v) [
-  | None ↦ answer says.Empty h
-  | Some x ↦ if nat_le (length (fields_of h x)) i then answer says.Range h else field_stored h x i w
-]
+field_set h v i w = of_object h (slot h.vars v)
+    (λ x. if nat_le (length (fields_of h x)) i then answer says.Range h else field_stored h x i w)
 
 -- V names the object that was read, or is emptied where there was none
 abbrev pub read_into : (ℕ → Reply) → Heap → ℕ → Option ℕ → Answered Heap
@@ -133,11 +146,8 @@ read_into name h v (Some y) = answer (name y) (with_var h v (Some y))
 
 -- `get V W I`: V names the object in field I of W's object
 abbrev pub field_got : (ℕ → Reply) → Heap → ℕ → ℕ → ℕ → Answered Heap
-field_got name h v w i = elim (slot h.vars w) [
-  | None ↦ answer says.Empty h
-  | Some x ↦ if nat_le (length (fields_of h x)) i then answer
-      says.Range h else read_into name h v (slot (fields_of h x) i)
-]
+field_got name h v w i = of_object h (slot h.vars w) (λ x. if nat_le (length (fields_of h x)) i
+    then answer says.Range h else read_into name h v (slot (fields_of h x) i))
 
 -- `drop V`: V is emptied
 abbrev pub dropped : Heap → ℕ → Answered Heap
@@ -150,5 +160,19 @@ loaded name h v s = read_into name h v (slot h.statics s)
 -- `store x V`: the static holds V's object, or nothing
 abbrev pub stored : Heap → ℕ → Option ℕ → Answered Heap
 stored h s None = answer says.Ok (with_static h s None)
-stored h s (Some v) = elim (slot h.vars v)
-    [ None ↦ answer says.Empty h | Some x ↦ answer says.Ok (with_static h s (Some x)) ]
+stored h s (Some v) = of_object h (slot h.vars v) (λ x. answer says.Ok (with_static h s (Some x)))
+
+-- the place of a variable that may be missing
+abbrev pub place_or_none : ℕ → Option Var → Option ℕ
+place_or_none t None = None
+place_or_none t (Some v) = Some (place t v.0)
+
+-- the events of lines that both heaps have, each on the thread's own heap
+abbrev pub heap_line : (ℕ → Reply) → Heap → ℕ → Act → Answered Heap
+heap_line name h t (act.Copy v w) = copied name h (place t v.0) (place t w.0)
+heap_line name h t (act.Set v i w) = field_set h (place t v.0) i (place_or_none t w)
+heap_line name h t (act.Get v w i) = field_got name h (place t v.0) (place t w.0) i
+heap_line name h t (act.Drop v) = dropped h (place t v.0)
+heap_line name h t (act.Load v x) = loaded name h (place t v.0) x.0
+heap_line name h t (act.Store x v) = stored h x.0 (place_or_none t v)
+heap_line name h t _ = not_here h

@@ -1,7 +1,7 @@
 -- Which operations a script line can have, which events an operation has, and on which side of the bridge
 -- an event is made. docs/SCRIPT.md has the words. (The limits are this project's own.)
 -- Believed: the clauses of the program's top call rest on all that stands here.
-use Rattle.std.specs.Prelude.{◌≡◌, ℕ, ◌<◌, ◌≤◌, ◌⊎◌, Bool, true, false, Option, Some, None}
+use Rattle.std.specs.Prelude.{◌≡◌, ℕ, ◌<◌, ◌≤◌, ◌⊎◌, Bool, true, false, Option, IfSome}
 use Rattle.joint_machine.specs.declared.names.Var.{Var}
 use Rattle.joint_machine.specs.declared.names.Thread.{Thread}
 use Rattle.joint_machine.specs.declared.names.Thread.TheVariants.{M, P, C}
@@ -20,52 +20,50 @@ IsVar v = v.0 < 8
 
 -- a variable or none
 abbrev pub IsVarOrNone : Option Var → Type 0
-IsVarOrNone None = Unit {0}
-IsVarOrNone (Some v) = IsVar v
+IsVarOrNone v = IfSome v IsVar
 
 -- a managed thread is one of m1 to m8
 abbrev pub IsManagedThread : Thread → Type 0
 IsManagedThread (M n) = (1 ≤ n) × (n ≤ 8)
-IsManagedThread (P n) = ⊥
-IsManagedThread C = ⊥
+IsManagedThread _ = ⊥
 
 -- a peer thread is one of p1 to p8
 abbrev pub IsPeerThread : Thread → Type 0
-IsPeerThread (M n) = ⊥
 IsPeerThread (P n) = (1 ≤ n) × (n ≤ 8)
-IsPeerThread C = ⊥
+IsPeerThread _ = ⊥
 
 -- the driver's thread is c
 abbrev pub IsDriver : Thread → Type 0
-IsDriver (M n) = ⊥
-IsDriver (P n) = ⊥
 IsDriver C = Unit {0}
+IsDriver _ = ⊥
 
 -- an object without a peer: plain with up to 16 fields, or a leaf with none
 abbrev pub IsPlainObject : Kind → ℕ → Type 0
 IsPlainObject kind.Plain n = n ≤ 16
 IsPlainObject kind.Leaf n = n ≡ 0
-IsPlainObject kind.Bridge n = ⊥
-IsPlainObject kind.LeafBridge n = ⊥
+IsPlainObject _ n = ⊥
 
 -- a bridge object with its peer's sort: a bridge with up to 16 fields has a user's peer, a leaf bridge
 -- has no fields and a peer of either sort
 abbrev pub IsBridgeObject : Kind → ℕ → Sort → Type 0
-IsBridgeObject kind.Plain n s = ⊥
-IsBridgeObject kind.Leaf n s = ⊥
 IsBridgeObject kind.Bridge n s = (n ≤ 16) × (s ≡ User)
 IsBridgeObject kind.LeafBridge n s = n ≡ 0
+IsBridgeObject _ n s = ⊥
+
+-- the operations that the lines of managed and of peer threads have, each on the thread's own heap
+abbrev pub IsHeapAct : Act → Type 0
+IsHeapAct (act.Copy v w) = IsVar v × IsVar w
+IsHeapAct (act.Set v i w) = IsVar v × IsVarOrNone w × (i ≤ 255)
+IsHeapAct (act.Get v w i) = IsVar v × IsVar w × (i ≤ 255)
+IsHeapAct (act.Drop v) = IsVar v
+IsHeapAct (act.Load v x) = IsVar v × (x.0 < 16)
+IsHeapAct (act.Store x v) = (x.0 < 16) × IsVarOrNone v
+IsHeapAct _ = ⊥
 
 -- the operations of a managed thread's line
 abbrev pub IsManagedAct : Act → Type 0
 IsManagedAct (act.New v k n) = IsVar v × IsPlainObject k n
 IsManagedAct (act.Bridge v k n s f) = IsVar v × IsBridgeObject k n s × (f ≤ 16)
-IsManagedAct (act.Copy v w) = IsVar v × IsVar w
-IsManagedAct (act.Set v i w) = IsVar v × IsVarOrNone w × (i ≤ 255)
-IsManagedAct (act.Get v w i) = IsVar v × IsVar w × (i ≤ 255)
-IsManagedAct (act.Drop v) = IsVar v
-IsManagedAct (act.Load v x) = IsVar v × (x.0 < 16)
-IsManagedAct (act.Store x v) = (x.0 < 16) × IsVarOrNone v
 IsManagedAct (act.Weak k v) = (k.0 < 64) × IsVar v
 IsManagedAct (act.Read k) = k.0 < 64
 IsManagedAct (act.Await k) = k.0 < 64
@@ -74,16 +72,10 @@ IsManagedAct (act.Pass v x) = IsVar v × (x.0 < 16)
 IsManagedAct (act.Surface v x) = IsVar v × (x.0 < 16)
 IsManagedAct (act.Dispose v) = IsVar v
 IsManagedAct (act.Handle v) = IsVar v
-IsManagedAct _ = ⊥
+IsManagedAct a = IsHeapAct a
 
 -- the operations of a peer thread's line
 abbrev pub IsPeerAct : Act → Type 0
-IsPeerAct (act.Copy v w) = IsVar v × IsVar w
-IsPeerAct (act.Set v i w) = IsVar v × IsVarOrNone w × (i ≤ 255)
-IsPeerAct (act.Get v w i) = IsVar v × IsVar w × (i ≤ 255)
-IsPeerAct (act.Drop v) = IsVar v
-IsPeerAct (act.Load v x) = IsVar v × (x.0 < 16)
-IsPeerAct (act.Store x v) = (x.0 < 16) × IsVarOrNone v
 IsPeerAct (act.NewPeer v n) = IsVar v × (n ≤ 16)
 IsPeerAct (act.Global g v) = (g.0 < 64) × IsVar v
 IsPeerAct (act.WGlobal g v) = (g.0 < 64) × IsVar v
@@ -93,7 +85,7 @@ IsPeerAct act.Collect = Unit {0}
 IsPeerAct act.BeginMark = Unit {0}
 IsPeerAct (act.Slice n) = (1 ≤ n) × (n ≤ 65535)
 IsPeerAct act.SweepMark = Unit {0}
-IsPeerAct _ = ⊥
+IsPeerAct a = IsHeapAct a
 
 -- the operations of the driver's line: a phase, or the taking of notices
 abbrev pub IsDriverAct : Act → Type 0
@@ -130,7 +122,7 @@ IsOneEvent (act.Slice n) = Unit {0}
 IsOneEvent (act.Finalise n) = Unit {0}
 IsOneEvent _ = ⊥
 
--- a thread and an event that a history can have
+-- a thread and an event that a history can have; those that no line below names are the driver's
 abbrev pub IsEvent : Thread → Op → Type 0
 IsEvent t (op.Line a) = IsLine t a × IsOneEvent a
 IsEvent t (op.Make s n) = IsManagedThread t × (n ≤ 16)
@@ -141,17 +133,9 @@ IsEvent t (op.Grip x) = IsManagedThread t × (x.0 < 16)
 IsEvent t (op.Meet v s n p h) = IsManagedThread t × IsVar v × (n ≤ 16)
 IsEvent t (op.Give v) = IsManagedThread t × IsVar v
 IsEvent t (op.Release h) = IsManagedThread t
-IsEvent t (op.Snap k) = IsDriver t
-IsEvent t (op.Contract k) = IsDriver t
-IsEvent t (op.Mirror k) = IsDriver t
-IsEvent t (op.Weaken h) = IsDriver t
 IsEvent t op.Begin = IsPeerThread t ⊎ IsDriver t
 IsEvent t op.Sweep = IsPeerThread t ⊎ IsDriver t
-IsEvent t (op.Restore h) = IsDriver t
-IsEvent t (op.Clear k) = IsDriver t
-IsEvent t (op.Resolve k) = IsDriver t
-IsEvent t (op.Abandon k) = IsDriver t
-IsEvent t (op.Refused w) = IsDriver t
+IsEvent t _ = IsDriver t
 
 -- a thread is one of those that a script can have
 abbrev pub IsThread : Thread → Type 0
@@ -178,32 +162,23 @@ IsNamed t _ = IsThread t
 
 -- whether a thread's line is made on the peer side
 abbrev pub is_peer_thread : Thread → Bool
-is_peer_thread (M n) = false
 is_peer_thread (P n) = true
-is_peer_thread C = false
+is_peer_thread _ = false
 
 -- whether the event is made on the peer side; the others are made on the managed side
 abbrev pub is_peer_event : Thread → Op → Bool
 is_peer_event t (op.Line a) = is_peer_thread t
 is_peer_event t (op.Make s n) = true
-is_peer_event t (op.Adopt v k n p h) = false
-is_peer_event t (op.Lend v x) = false
 is_peer_event t (op.Land h x) = true
 is_peer_event t (op.Grip x) = true
-is_peer_event t (op.Meet v s n p h) = false
-is_peer_event t (op.Give v) = false
 is_peer_event t (op.Release h) = true
-is_peer_event t (op.Snap k) = false
-is_peer_event t (op.Contract k) = false
 is_peer_event t (op.Mirror k) = true
 is_peer_event t (op.Weaken h) = true
 is_peer_event t op.Begin = true
 is_peer_event t op.Sweep = true
 is_peer_event t (op.Restore h) = true
 is_peer_event t (op.Clear k) = true
-is_peer_event t (op.Resolve k) = false
-is_peer_event t (op.Abandon k) = false
-is_peer_event t (op.Refused w) = false
+is_peer_event t _ = false
 
 -- whether the event is a read of a cell
 abbrev pub is_read : Op → Bool

@@ -2,10 +2,7 @@
 -- each caller's events come in their order. Reads are events of the managed side here, as all others are;
 -- `LinkedHistories` has the histories, whose reads take no lock.
 -- Believed: the clauses of the program's top call rest on all that stands here.
-use Rattle.std.specs.Prelude.{◌≡◌, ℕ, ◌<◌, ◌≤◌, ◌^◌, Bool, true, false, if◌then◌else◌, List, length, filter}
-use Rattle.joint_machine.specs.declared.lines.Act.TheVariants as act
-use Rattle.joint_machine.specs.declared.events.Op.{Op}
-use Rattle.joint_machine.specs.declared.events.Op.TheVariants as op
+use Rattle.std.specs.Prelude.{◌≡◌, ℕ, ◌<◌, ◌≤◌, ◌^◌, Bool, true, false, length}
 use Rattle.joint_machine.specs.declared.events.Made.{Made}
 use Rattle.joint_machine.specs.Control.{Control, opening_control, CallerAllows, control_after, last_line, doing_at}
 use Rattle.joint_machine.specs.Control.{IsDone, IsAtRest}
@@ -72,17 +69,3 @@ linkage_after s n = record {
 pub record IsWhole (s : Linkage) : Type 0 where
   pub threads : (t : ℕ) → IsDone (doing_at s.control t)
   pub driver : IsAtRest s.control.stand (length (candidates_of s.managed.managed))
-
--- whether the event is a step of the joint machine
-abbrev pub is_joint : Op → Bool
-is_joint (op.Line (act.Slice n)) = false
-is_joint (op.Contract k) = false
-is_joint (op.Mirror k) = false
-is_joint (op.Weaken h) = false
-is_joint (op.Clear k) = false
-is_joint (op.Refused w) = false
-is_joint _ = true
-
--- the entries that are steps of the joint machine, but for those that are set aside; their numbers stay
-abbrev pub projected : (Noted → Bool) → List Noted → List Noted
-projected is_aside ns = filter (λ n. if is_aside n then false else is_joint n.entry.made.op) ns

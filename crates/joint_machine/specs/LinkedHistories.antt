@@ -2,11 +2,12 @@
 -- the citations agree, and each caller's events come in their order. And the joint projection: the entries that are
 -- steps of the joint machine.
 -- Believed: the clauses of the program's top call rest on all that stands here.
-use Rattle.std.specs.Prelude.{◌≡◌, List, map, take}
+use Rattle.std.specs.Prelude.{◌≡◌, false, if◌then◌else◌, List, map, take, filter}
 use Rattle.joint_machine.specs.Histories.{Finished, managed_numbers, peer_numbers, NumberedFrom}
-use Rattle.joint_machine.specs.Linked.{Linkage, opening_linkage, IsWhole, projected}
+use Rattle.joint_machine.specs.Linked.{Linkage, opening_linkage, IsWhole}
 use Rattle.joint_machine.specs.Managed.{Managed}
 use Rattle.joint_machine.specs.Readers.{AllMayComeReading, replayed_reading, is_aside}
+use Rattle.joint_machine.specs.Run.{is_joint}
 use Rattle.joint_machine.specs.Told.{Noted}
 
 -- the state at the end of a history's notes, and its managed objects
@@ -41,4 +42,4 @@ HasQueued h noted = managed_numbers h.notices ≡ (managed_end noted).notices
 -- the joint projection: the entries that are steps of the joint machine; their numbers stay. A read that is set aside
 -- is none
 abbrev pub joint_projection : List Noted → List Noted
-joint_projection ns = projected is_aside ns
+joint_projection ns = filter (λ n. if is_aside n then false else is_joint n.entry.made.op) ns

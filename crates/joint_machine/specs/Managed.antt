@@ -9,14 +9,13 @@ use Rattle.joint_machine.specs.declared.names.Kind.{Kind}
 use Rattle.joint_machine.specs.declared.names.Kind.TheVariants.{Bridge, LeafBridge}
 use Rattle.joint_machine.specs.declared.names.Sort.{Sort}
 use Rattle.joint_machine.specs.declared.names.Sort.TheVariants.{User, Framework}
-use Rattle.joint_machine.specs.declared.names.Var.{Var}
 use Rattle.joint_machine.specs.declared.lines.Act.{Act}
 use Rattle.joint_machine.specs.declared.lines.Act.TheVariants as act
 use Rattle.joint_machine.specs.declared.events.Reply.{Reply}
 use Rattle.joint_machine.specs.declared.events.Reply.TheVariants as says
 use Rattle.joint_machine.specs.Heaps.{Heap, IsLive, HasField, InSlot, Answered, answer, opening_heap, slot, numbered_at}
 use Rattle.joint_machine.specs.Heaps.{numbered_set, place, is_freed, is_full, next_number, with_var, with_object}
-use Rattle.joint_machine.specs.Heaps.{with_freed, copied, field_set, field_got, dropped, loaded, stored}
+use Rattle.joint_machine.specs.Heaps.{with_freed, of_object, heap_line}
 use Rattle.joint_machine.specs.Told.{Answer, said_alive, said_cleared}
 use Rattle.joint_machine.specs.Walks.{Reached}
 use Rattle.joint_machine.specs.declared.names.TheConstants.{PINS, CELLS}
@@ -119,7 +118,7 @@ cell_set s k x (Some y) = answer says.Taken s
 
 -- `weak K V`: the cell's target is V's object
 abbrev pub weakened_to : Managed → ℕ → ℕ → Answered Managed
-weakened_to s k v = elim (slot s.heap.vars v) [ None ↦ answer says.Empty s | Some x ↦ cell_set s k x (slot s.cells k) ]
+weakened_to s k v = of_object s (slot s.heap.vars v) (λ x. cell_set s k x (slot s.cells k))
 
 -- the reader's pin holds the cell's target, if that isn't freed
 abbrev pub target_read : Managed → ℕ → Option ℕ → Answered Managed
@@ -139,10 +138,8 @@ read_cell s t k = elim (slot s.pins t)
 
 -- `take V`: V names the pin's object, and the pin is emptied
 abbrev pub pin_taken : Managed → ℕ → ℕ → Answered Managed
-pin_taken s t v = elim (slot s.pins t) [
-  | None ↦ answer says.Empty s
-  | Some x ↦ answer (managed_name x) (record s { heap = with_var s.heap v (Some x); pins = slice_set s.pins t None })
-]
+pin_taken s t v = of_object s (slot s.pins t) (λ x. answer (managed_name x)
+    (record s { heap = with_var s.heap v (Some x); pins = slice_set s.pins t None }))
 
 -- the reply that names the handle of V's object
 abbrev pub handle_reply : Managed → ℕ → Reply
@@ -189,41 +186,16 @@ abbrev pub notices_taken : Managed → ℕ → Answered Managed
 notices_taken s n = let count = min n (length s.notices - s.taken) in
     answer (says.Took record { first = s.taken; count = count }) (record s { taken = s.taken + count })
 
--- the place of a variable that may be missing
-abbrev pub place_or_none : ℕ → Option Var → Option ℕ
-place_or_none t None = None
-place_or_none t (Some v) = Some (place t v.0)
-
--- the events of a managed thread's lines that are one event. The operations that are none of these don't come
--- here: no lawful history has them as an event of one line.
+-- the events of a managed thread's lines that are one event: what managed objects alone have, and what both heaps have
 abbrev pub managed_line : Managed → ℕ → Act → Answered Managed
 managed_line s t (act.New v kind n) = made_new s (place t v.0) kind n
-managed_line s t (act.Copy v w) = on_heap s (copied managed_name s.heap (place t v.0) (place t w.0))
-managed_line s t (act.Set v i w) = on_heap s (field_set s.heap (place t v.0) i (place_or_none t w))
-managed_line s t (act.Get v w i) = on_heap s (field_got managed_name s.heap (place t v.0) (place t w.0) i)
-managed_line s t (act.Drop v) = on_heap s (dropped s.heap (place t v.0))
-managed_line s t (act.Load v x) = on_heap s (loaded managed_name s.heap (place t v.0) x.0)
-managed_line s t (act.Store x v) = on_heap s (stored s.heap x.0 (place_or_none t v))
 managed_line s t (act.Weak k v) = weakened_to s k.0 (place t v.0)
 managed_line s t (act.Read k) = read_cell s t k.0
 managed_line s t (act.Await k) = read_cell s t k.0
 managed_line s t (act.Take v) = pin_taken s t (place t v.0)
 managed_line s t (act.Handle v) = answer (handle_reply s (place t v.0)) s
 managed_line s t (act.Finalise n) = notices_taken s n
-managed_line s t (act.Bridge v kind n sort m) = answer says.Ok s
-managed_line s t (act.Pass v x) = answer says.Ok s
-managed_line s t (act.Surface v x) = answer says.Ok s
-managed_line s t (act.Dispose v) = answer says.Ok s
-managed_line s t (act.NewPeer v n) = answer says.Ok s
-managed_line s t (act.Global g v) = answer says.Ok s
-managed_line s t (act.WGlobal g v) = answer says.Ok s
-managed_line s t (act.UnGlobal g) = answer says.Ok s
-managed_line s t (act.WRead v g) = answer says.Ok s
-managed_line s t act.Collect = answer says.Ok s
-managed_line s t act.BeginMark = answer says.Ok s
-managed_line s t (act.Slice n) = answer says.Ok s
-managed_line s t act.SweepMark = answer says.Ok s
-managed_line s t (act.PhaseLine word) = answer says.Ok s
+managed_line s t a = on_heap s (heap_line managed_name s.heap t a)
 
 -- a snapshot: its rows are freed, and the next cycle is opened
 abbrev pub with_snapshot : Managed → List ℕ → List ℕ → List ℕ → Managed

@@ -15,7 +15,7 @@ use Rattle.joint_machine.specs.declared.events.Reply.{Reply}
 use Rattle.joint_machine.specs.declared.events.Reply.TheVariants as says
 use Rattle.joint_machine.specs.Cycles.{IsSnapshot, snap_reply, IsResolution, resolve_reply, IsOpen, IsDeadContraction}
 use Rattle.joint_machine.specs.Cycles.{IsAnsweredAlive}
-use Rattle.joint_machine.specs.Heaps.{Answered, answer, slot, place}
+use Rattle.joint_machine.specs.Heaps.{Answered, answer, not_here, slot, place}
 use Rattle.joint_machine.specs.Managed.{Managed, OpenCycle, opening_managed, managed_line, adopted, met, given_up}
 use Rattle.joint_machine.specs.Managed.{handle_reply, with_snapshot, resolved, abandoned}
 use Rattle.joint_machine.specs.Phases.{next_phase}
@@ -109,20 +109,8 @@ managed_answer s t (op.Resolve k) (resolution_of answers freed) = answer
     })
 managed_answer s t (op.Abandon k) told = answer says.Ok (record s { managed = abandoned s.managed })
 managed_answer s t (op.Refused w) (phase_of phase) = answer (refusal_to s.managed phase w) s
-managed_answer s t (op.Make sort n) told = answer says.Ok s
-managed_answer s t (op.Land h x) told = answer says.Ok s
-managed_answer s t (op.Grip x) told = answer says.Ok s
 managed_answer s t (op.Release h) told = answer says.Ok s
-managed_answer s t (op.Snap k) told = answer says.Ok s
-managed_answer s t (op.Contract k) told = answer says.Ok s
-managed_answer s t (op.Mirror k) told = answer says.Ok s
-managed_answer s t (op.Weaken h) told = answer says.Ok s
-managed_answer s t op.Begin told = answer says.Ok s
-managed_answer s t op.Sweep told = answer says.Ok s
-managed_answer s t (op.Restore h) told = answer says.Ok s
-managed_answer s t (op.Clear k) told = answer says.Ok s
-managed_answer s t (op.Resolve k) told = answer says.Ok s
-managed_answer s t (op.Refused w) told = answer says.Ok s
+managed_answer s t _ told = not_here s
 
 -- cycle k is open, its contraction isn't made, and these are the components, heavy classes and cross-references of its
 -- dead part
@@ -147,13 +135,9 @@ pub record MayResolve (s : ManagedReplay) (k : ℕ) (alive : List Answer) (freed
   pub new : AreNew s.adopted (handles_given alive)
   pub resolution : IsResolution s.managed cycle.dead (IsAnsweredAlive cycle.candidates alive) freed
 
--- a word is refused in a phase: the phase isn't the one before the word's own
-abbrev pub IsRefusedIn : PhaseWord → Phase → Type 0
-IsRefusedIn w phase = next_phase phase w ≡ None
-
--- a refusal: its word is refused in the driver's phase, which is idle exactly where no cycle is open
+-- a refusal: the driver's phase isn't the one before the word's own, and it is idle exactly where no cycle is open
 pub record MayRefuse (s : ManagedReplay) (w : PhaseWord) (phase : Phase) : Type 0 where
-  pub refused : IsRefusedIn w phase
+  pub refused : next_phase phase w ≡ None
   pub idle : (phase ≡ at.Idle) ↔ (s.managed.cycle ≡ None)
 
 -- what an event asks for, beside its reply

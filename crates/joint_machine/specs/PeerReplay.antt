@@ -16,7 +16,7 @@ use Rattle.joint_machine.specs.declared.events.Reply.{Reply}
 use Rattle.joint_machine.specs.declared.events.Reply.TheVariants as says
 use Rattle.joint_machine.specs.Components.{Rises, End, node, temporary}
 use Rattle.joint_machine.specs.Heaps.{Heap, IsLive, HasField, InSlot, Answered, answer, slot, numbered_at, numbered_set}
-use Rattle.joint_machine.specs.Heaps.{with_freed}
+use Rattle.joint_machine.specs.Heaps.{not_here, with_freed, freed_span}
 use Rattle.joint_machine.specs.Peers.{Peers, opening_peers, peer_line, pair_made, gripped, landed, issued_since}
 use Rattle.joint_machine.specs.Peers.{peer_of, next_handle, with_renewed, Issued, held, Strength, strong, weak}
 use Rattle.joint_machine.specs.Peers.{is_strong}
@@ -195,12 +195,11 @@ begun s (Some mk) t = answer (says.MarkOpen record { 0 = mk.number }) s
 
 -- peers are freed: the handles on them are cleared, and the marking ends
 abbrev pub swept_of : PeerReplay → Marking → List ℕ → Answered PeerReplay
-swept_of s mk freed = answer (says.Swept record { 0 = mk.number }
-    record { first = length s.peers.heap.freed; count = length freed }) (record s {
-      peers = record s.peers { heap = with_freed s.peers.heap freed };
-      table = cleared_rows freed s.peers.issued s.table;
-      marking = None;
-    })
+swept_of s mk freed = answer (says.Swept record { 0 = mk.number } (freed_span s.peers.heap freed)) (record s {
+  peers = record s.peers { heap = with_freed s.peers.heap freed };
+  table = cleared_rows freed s.peers.issued s.table;
+  marking = None;
+})
 
 -- a sweep, which a peer thread is refused without a marking or during another thread's
 abbrev pub swept : PeerReplay → Option Marking → Thread → List ℕ → Answered PeerReplay
@@ -276,16 +275,7 @@ peer_answer s t op.Sweep cites (sweep_of freed) = swept s s.marking t freed
 peer_answer s t op.Sweep cites _ = swept s s.marking t []
 peer_answer s t (op.Restore h) cites told = restored_by s h.0 (row_of s h.0)
 peer_answer s t (op.Clear k) cites told = answer says.Ok (record s { refs = []; mirror = None })
-peer_answer s t (op.Adopt v kind n p h) cites told = answer says.Ok s
-peer_answer s t (op.Lend v x) cites told = answer says.Ok s
-peer_answer s t (op.Meet v sort n p h) cites told = answer says.Ok s
-peer_answer s t (op.Give v) cites told = answer says.Ok s
-peer_answer s t (op.Snap k) cites told = answer says.Ok s
-peer_answer s t (op.Contract k) cites told = answer says.Ok s
-peer_answer s t (op.Mirror k) cites told = answer says.Ok s
-peer_answer s t (op.Resolve k) cites told = answer says.Ok s
-peer_answer s t (op.Abandon k) cites told = answer says.Ok s
-peer_answer s t (op.Refused w) cites told = answer says.Ok s
+peer_answer s t _ cites told = not_here s
 
 -- the handle is held
 abbrev pub IsHeld : PeerReplay → ℕ → Type 0

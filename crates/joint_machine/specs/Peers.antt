@@ -11,9 +11,7 @@ use Rattle.joint_machine.specs.declared.lines.Act.TheVariants as act
 use Rattle.joint_machine.specs.declared.events.Reply.{Reply}
 use Rattle.joint_machine.specs.declared.events.Reply.TheVariants as says
 use Rattle.joint_machine.specs.Heaps.{Heap, Answered, answer, MOST, opening_heap, slot, numbered_at, place, is_full}
-use Rattle.joint_machine.specs.Heaps.{next_number, with_var, with_static, with_object, fields_of, copied, field_set}
-use Rattle.joint_machine.specs.Heaps.{field_got, dropped, loaded, stored}
-use Rattle.joint_machine.specs.Managed.{place_or_none}
+use Rattle.joint_machine.specs.Heaps.{next_number, with_var, with_static, with_object, fields_of, of_object, heap_line}
 use Rattle.joint_machine.specs.declared.names.TheConstants.{NAMES}
 
 -- a handle is held, made for a managed object, or raw, made by a peer thread
@@ -137,8 +135,7 @@ name_given s g p strength None = if handles_full s then answer says.Full s else
 
 -- `global G V` and `wglobal G V`: G names a raw handle on V's peer
 abbrev pub globalised : Peers → ℕ → ℕ → Strength → Answered Peers
-globalised s g v strength = elim (slot s.heap.vars v)
-    [ None ↦ answer says.Empty s | Some p ↦ name_given s g p strength (slot s.names g) ]
+globalised s g v strength = of_object s (slot s.heap.vars v) (λ p. name_given s g p strength (slot s.names g))
 
 -- `unglobal G`: the name is free again
 abbrev pub name_freed : Peers → ℕ → Answered Peers
@@ -154,33 +151,12 @@ peer_read s v (Some p) = answer (peer_name p) (record s { heap = with_var s.heap
 abbrev pub name_read : (ℕ → Option ℕ) → Peers → ℕ → ℕ → Answered Peers
 name_read target s v g = elim (slot s.names g) [ None ↦ answer says.Unset s | Some h ↦ peer_read s v (target h) ]
 
--- the events of a peer thread's lines that are one event, given where each handle leads. The operations that
--- are none of these don't come here: no lawful history has them as an event of one line of a peer thread.
+-- the events of a peer thread's lines that are one event, given where each handle leads: what peers alone have, and
+-- what both heaps have
 abbrev pub peer_line : (ℕ → Option ℕ) → Peers → ℕ → Act → Answered Peers
 peer_line target s t (act.NewPeer v n) = peer_made s (place t v.0) n
-peer_line target s t (act.Copy v w) = on_peer_heap s (copied peer_name s.heap (place t v.0) (place t w.0))
-peer_line target s t (act.Set v i w) = on_peer_heap s (field_set s.heap (place t v.0) i (place_or_none t w))
-peer_line target s t (act.Get v w i) = on_peer_heap s (field_got peer_name s.heap (place t v.0) (place t w.0) i)
-peer_line target s t (act.Drop v) = on_peer_heap s (dropped s.heap (place t v.0))
-peer_line target s t (act.Load v x) = on_peer_heap s (loaded peer_name s.heap (place t v.0) x.0)
-peer_line target s t (act.Store x v) = on_peer_heap s (stored s.heap x.0 (place_or_none t v))
 peer_line target s t (act.Global g v) = globalised s g.0 (place t v.0) strong
 peer_line target s t (act.WGlobal g v) = globalised s g.0 (place t v.0) weak
 peer_line target s t (act.UnGlobal g) = name_freed s g.0
 peer_line target s t (act.WRead v g) = name_read target s (place t v.0) g.0
-peer_line target s t (act.New v kind n) = answer says.Ok s
-peer_line target s t (act.Bridge v kind n sort m) = answer says.Ok s
-peer_line target s t (act.Weak k v) = answer says.Ok s
-peer_line target s t (act.Read k) = answer says.Ok s
-peer_line target s t (act.Await k) = answer says.Ok s
-peer_line target s t (act.Take v) = answer says.Ok s
-peer_line target s t (act.Pass v x) = answer says.Ok s
-peer_line target s t (act.Surface v x) = answer says.Ok s
-peer_line target s t (act.Dispose v) = answer says.Ok s
-peer_line target s t (act.Handle v) = answer says.Ok s
-peer_line target s t act.Collect = answer says.Ok s
-peer_line target s t act.BeginMark = answer says.Ok s
-peer_line target s t (act.Slice n) = answer says.Ok s
-peer_line target s t act.SweepMark = answer says.Ok s
-peer_line target s t (act.PhaseLine word) = answer says.Ok s
-peer_line target s t (act.Finalise n) = answer says.Ok s
+peer_line target s t a = on_peer_heap s (heap_line peer_name s.heap t a)

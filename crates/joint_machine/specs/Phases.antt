@@ -6,6 +6,8 @@ use Rattle.joint_machine.specs.declared.names.Phase.{Phase}
 use Rattle.joint_machine.specs.declared.names.Phase.TheVariants as at
 use Rattle.joint_machine.specs.declared.names.PhaseWord.{PhaseWord}
 use Rattle.joint_machine.specs.declared.names.PhaseWord.TheVariants as word
+use Rattle.joint_machine.specs.declared.names.Cycle.{Cycle}
+use Rattle.joint_machine.specs.declared.names.Span.{Span}
 use Rattle.joint_machine.specs.declared.events.Op.{Op}
 use Rattle.joint_machine.specs.declared.events.Op.TheVariants as op
 use Rattle.joint_machine.specs.declared.events.Reply.{Reply}
@@ -60,10 +62,6 @@ abbrev pub IsClear : Op → Type 0
 IsClear (op.Clear k) = Unit {0}
 IsClear o = ⊥
 
-abbrev pub HasSwept : Reply → Type 0
-HasSwept (says.Swept j s) = Unit {0}
-HasSwept reply = ⊥
-
 -- each entry is an event of the phase
 abbrev pub AreEach : PhaseWord → List Entry → Type 0
 AreEach w [] = Unit {0}
@@ -75,21 +73,14 @@ pub record AreTimes (w : PhaseWord) (n : ℕ) (entries : List Entry) : Type 0 wh
   pub count : length entries ≡ n
 
 -- the events of `mark`: a begin; before it, where a peer thread's marking is open, a sweep that ends that marking
-pub record AreMarkAfterSweep (entries : List Entry) : Type 0 where
-  pub sweep : Entry
-  pub begin : Entry
-  pub all : entries ≡ sweep ∷ begin ∷ []
-  pub sweeps : sweep.made.op ≡ op.Sweep
-  pub ends : HasSwept sweep.made.reply
-  pub begins : IsEventOf word.Mark begin.made.op
+abbrev pub AreMarkAfterSweep : List Entry → Type 0
+AreMarkAfterSweep es = (sweep : Entry) × (begin : Entry) × (j : ℕ) × (s : Span) × (es ≡ sweep ∷ begin ∷ [])
+    × (sweep.made.op ≡ op.Sweep) × (sweep.made.reply ≡ says.Swept record { 0 = j } s) × IsEventOf word.Mark begin.made.op
 
 -- the events of `restore`: a restore for each candidate, and a clear
-pub record AreRestores (n : ℕ) (entries : List Entry) : Type 0 where
-  pub restores : List Entry
-  pub clear : Entry
-  pub all : entries ≡ restores ++ clear ∷ []
-  pub times : AreTimes word.Restore n restores
-  pub clears : IsClear clear.made.op
+abbrev pub AreRestores : ℕ → List Entry → Type 0
+AreRestores n entries = (restores : List Entry) × (clear : Entry) × (entries ≡ restores ++ clear ∷ [])
+    × AreTimes word.Restore n restores × IsClear clear.made.op
 
 -- the events of one phase, in a cycle with so many candidates
 abbrev pub ArePhase : ℕ → PhaseWord → List Entry → Type 0
@@ -113,15 +104,10 @@ ArePhases n [] entries = entries ≡ []
 ArePhases n (w ∷ ws) entries = (own : List Entry) × (rest : List Entry)
     × (entries ≡ own ++ rest) × ArePhase n w own × ArePhases (candidates_after n own) ws rest
 
--- the reply names an open cycle
-abbrev pub NamesCycle : Reply → Type 0
-NamesCycle (says.CycleOpen k) = Unit {0}
-NamesCycle reply = ⊥
-
 -- the reply of a refusal: that of `cycle` and `snap` names the open cycle, each other the driver's phase
 abbrev pub NamesPhase : PhaseWord → Phase → Reply → Type 0
-NamesPhase word.Cycle phase reply = NamesCycle reply
-NamesPhase word.Snap phase reply = NamesCycle reply
+NamesPhase word.Cycle phase reply = (k : Cycle) × (reply ≡ says.CycleOpen k)
+NamesPhase word.Snap phase reply = (k : Cycle) × (reply ≡ says.CycleOpen k)
 NamesPhase w phase reply = reply ≡ says.At phase
 
 -- the events of a refused word: its one refusal

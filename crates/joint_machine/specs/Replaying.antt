@@ -1,12 +1,12 @@
 -- What laws say of lists of entries: that each may come, and the state after them.
-use Rattle.std.specs.Prelude.{◌≡◌, ℕ, List, ◌↔◌, Contains, false, [], ◌∷◌}
+use Rattle.std.specs.Prelude.{◌≡◌, ℕ, List, ◌↔◌, Contains, filter, false, [], ◌∷◌}
 use Rattle.joint_machine.specs.Told.{Answer, said_alive, Noted}
 use Rattle.joint_machine.specs.Components.{Rises}
 use Rattle.joint_machine.specs.Heaps.{IsLive}
 use Rattle.joint_machine.specs.Joint.{Graph, IsReachedIn, peer, Joint}
-use Rattle.joint_machine.specs.Linked.{Linkage, MayCome, linkage_after, projected}
+use Rattle.joint_machine.specs.Linked.{Linkage, MayCome, linkage_after}
 use Rattle.joint_machine.specs.Readers.{is_aside}
-use Rattle.joint_machine.specs.Run.{JointStep}
+use Rattle.joint_machine.specs.Run.{JointStep, is_joint}
 
 -- what an answer says of its candidate: by that answer it is kept
 abbrev pub SaysAlive : Answer → Type 0
@@ -27,9 +27,9 @@ abbrev pub AllMayCome : Linkage → List Noted → Type 0
 AllMayCome s [] = Unit {0}
 AllMayCome s (n ∷ ns) = MayCome s n × AllMayCome (linkage_after s n) ns
 
--- the same of a list in which every entry counts
+-- the entries that are steps of the joint machine, in a list in which every entry counts
 abbrev pub machine_entries : List Noted → List Noted
-machine_entries ns = projected (λ n. false) ns
+machine_entries ns = filter (λ n. is_joint n.entry.made.op) ns
 
 -- a step of the joint machine in a linked history: a read that is set aside is none
 pub record LawfulStep (j : Joint) (n : Noted) (next : Joint) : Type 0 where

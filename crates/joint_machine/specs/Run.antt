@@ -13,7 +13,7 @@ use Rattle.joint_machine.specs.declared.events.Reply.TheVariants as says
 use Rattle.joint_machine.specs.Components.{Rises}
 use Rattle.joint_machine.specs.Cycles.{IsSnapshot, snap_reply, IsResolution, resolve_reply, IsOpen}
 use Rattle.joint_machine.specs.Heaps.{Answered, answer, slot, numbered_at, numbered_set, place, is_freed, IsLive}
-use Rattle.joint_machine.specs.Heaps.{with_freed}
+use Rattle.joint_machine.specs.Heaps.{not_here, with_freed, freed_span}
 use Rattle.joint_machine.specs.Joint.{Joint, JointMarking, opening, IsReached, IsReachedIn, with_managed, peer}
 use Rattle.joint_machine.specs.Joint.{joint_target, twin_of}
 use Rattle.joint_machine.specs.Lines.{IsEvent, IsPeerThread}
@@ -59,19 +59,15 @@ joint_line j (M t) a = on_managed j (managed_line j.graph.managed t a)
 joint_line j (P t) a = joint_peer_line j t a
 joint_line j C a = on_managed j (managed_line j.graph.managed 0 a)
 
--- the events that are computed: the others come as relations below, or are no step of the joint machine
-abbrev pub IsComputed : Op → Type 0
-IsComputed (op.Line (act.Slice n)) = ⊥
-IsComputed (op.Line a) = Unit {0}
-IsComputed (op.Make sort n) = Unit {0}
-IsComputed (op.Adopt v kind n p h) = Unit {0}
-IsComputed (op.Lend v x) = Unit {0}
-IsComputed (op.Land h x) = Unit {0}
-IsComputed (op.Grip x) = Unit {0}
-IsComputed (op.Meet v sort n p h) = Unit {0}
-IsComputed (op.Give v) = Unit {0}
-IsComputed (op.Release h) = Unit {0}
-IsComputed _ = ⊥
+-- whether the event is a step of the joint machine
+abbrev pub is_joint : Op → Bool
+is_joint (op.Line (act.Slice n)) = false
+is_joint (op.Contract k) = false
+is_joint (op.Mirror k) = false
+is_joint (op.Weaken h) = false
+is_joint (op.Clear k) = false
+is_joint (op.Refused w) = false
+is_joint _ = true
 
 -- the reply to an event that is computed, and the state after it
 abbrev pub joint_answer : Joint → Thread → Op → Answered Joint
@@ -86,17 +82,7 @@ joint_answer j t (op.Meet v sort n p h) = on_managed j
     (met j.graph.managed (place (thread_number t) v.0) h.0 sort n (twin_of j p.0))
 joint_answer j t (op.Give v) = on_managed j (given_up j.graph.managed (place (thread_number t) v.0))
 joint_answer j t (op.Release h) = answer says.Ok (without j (Some h.0))
-joint_answer j t (op.Snap k) = answer says.Ok j
-joint_answer j t (op.Contract k) = answer says.Ok j
-joint_answer j t (op.Mirror k) = answer says.Ok j
-joint_answer j t (op.Weaken h) = answer says.Ok j
-joint_answer j t op.Begin = answer says.Ok j
-joint_answer j t op.Sweep = answer says.Ok j
-joint_answer j t (op.Restore h) = answer says.Ok j
-joint_answer j t (op.Clear k) = answer says.Ok j
-joint_answer j t (op.Resolve k) = answer says.Ok j
-joint_answer j t (op.Abandon k) = answer says.Ok j
-joint_answer j t (op.Refused w) = answer says.Ok j
+joint_answer j t _ = not_here j
 
 -- a snapshot
 pub record JointSnap (j : Joint) (k : ℕ) (freed candidates dead : List ℕ) (reply : Reply) (next : Joint) : Type 0 where
@@ -130,8 +116,7 @@ pub record EndsMarking (j : Joint) (m : JointMarking) (t : Thread)
   pub rise : Rises freed
   pub stored : All (IsStored m) freed
   pub unreached : All (λ p. IsReached j (peer p) → ⊥) freed
-  pub replies : reply ≡ says.Swept record { 0 = m.number }
-      record { first = length j.graph.peers.heap.freed; count = length freed }
+  pub replies : reply ≡ says.Swept record { 0 = m.number } (freed_span j.graph.peers.heap freed)
   pub state : next ≡ record j {
     graph = record j.graph { peers = record j.graph.peers { heap = with_freed j.graph.peers.heap freed } };
     marking = None;
@@ -220,9 +205,9 @@ pub record JointAbandon (j : Joint) (k : ℕ) (reply : Reply) (next : Joint) : T
   pub replies : reply ≡ says.Ok
   pub state : next ≡ record (with_managed j (abandoned j.graph.managed)) { answers = [] }
 
--- an event that is computed
+-- an event whose answer is computed
 pub record JointComputed (j : Joint) (t : Thread) (o : Op) (reply : Reply) (next : Joint) : Type 0 where
-  pub computed : IsComputed o
+  pub joint : is_joint o ≡ true
   pub replies : reply ≡ (joint_answer j t o).reply
   pub state : next ≡ (joint_answer j t o).state
 

@@ -10,7 +10,6 @@ use Rattle.joint_machine.specs.declared.names.PNum.{PNum}
 use Rattle.joint_machine.specs.declared.names.HNum.{HNum}
 use Rattle.joint_machine.specs.declared.names.StaticNo.{StaticNo}
 use Rattle.joint_machine.specs.declared.lines.Act.{Act}
-use Rattle.joint_machine.specs.declared.lines.Act.TheVariants as act
 use Rattle.joint_machine.specs.declared.events.Op.{Op}
 use Rattle.joint_machine.specs.declared.events.Op.TheVariants as op
 use Rattle.joint_machine.specs.declared.events.Reply.{Reply}
@@ -19,9 +18,8 @@ use Rattle.joint_machine.specs.Heaps.{Answered}
 use Rattle.joint_machine.specs.Histories.{Finished}
 use Rattle.joint_machine.specs.Joint.{Joint, JointMarking, with_managed}
 use Rattle.joint_machine.specs.Lines.{IsEvent, is_read}
-use Rattle.joint_machine.specs.Linked.{is_joint}
 use Rattle.joint_machine.specs.Managed.{Managed}
-use Rattle.joint_machine.specs.Run.{JointEvent, JointComputed, JointAbandon, JointSnap, JointBegin, JointSweep, JointRestore, JointResolve, IsComputed, joint_answer, joint_line}
+use Rattle.joint_machine.specs.Run.{JointEvent, JointComputed, JointAbandon, JointSnap, JointBegin, JointSweep, JointRestore, JointResolve, joint_answer, joint_line, is_joint}
 use Rattle.joint_machine.specs.Readers.{is_set_aside}
 use Rattle.joint_machine.specs.Told.{Told, nothing, snap_of, contraction_of, references_of, slice_of, sweep_of, resolution_of, phase_of, kept_pins}
 use Rattle.joint_replay.specs.declared.state.Verdict.{Verdict}
@@ -59,11 +57,11 @@ judged-ok h e j step new f (Err x) d = d
 given : (j : Joint) (t : Thread) (o : Op) (reply : Reply) (a : Answered Joint) (next : Joint) → joint_answer j t o ≡ a → JointComputed j t o reply next → Gives a reply next
 given j t o reply a next e s = record { replies = s.replies ∙ ap (λ (x : Answered Joint). x.reply) e; state = s.state ∙ ap (λ (x : Answered Joint). x.state) e }
 
-computed : (j : Joint) (t : Thread) (o : Op) (reply : Reply) (a : Answered Joint) (next : Joint) → IsComputed o → joint_answer j t o ≡ a → Gives a reply next → JointComputed j t o reply next
-computed j t o reply a next c e s = record { computed = c; replies = s.replies ∙ ap (λ (x : Answered Joint). x.reply) (sym e); state = s.state ∙ ap (λ (x : Answered Joint). x.state) (sym e) }
+computed : (j : Joint) (t : Thread) (o : Op) (reply : Reply) (a : Answered Joint) (next : Joint) → is_joint o ≡ true → joint_answer j t o ≡ a → Gives a reply next → JointComputed j t o reply next
+computed j t o reply a next c e s = record { joint = c; replies = s.replies ∙ ap (λ (x : Answered Joint). x.reply) (sym e); state = s.state ∙ ap (λ (x : Answered Joint). x.state) (sym e) }
 
 -- a verdict on the steps of a computed event
-judged-computed : (h : Finished) (e : Entry) (j : Joint) (o : Op) → IsComputed o
+judged-computed : (h : Finished) (e : Entry) (j : Joint) (o : Op) → is_joint o ≡ true
     → ((told : Told) (n : Joint) → JointEvent j e.made.caller o e.made.reply told n → JointComputed j e.made.caller o e.made.reply n)
     → ((n : Joint) → JointComputed j e.made.caller o e.made.reply n → JointEvent j e.made.caller o e.made.reply nothing n)
     → e.made.op ≡ o → IsEvent e.made.caller e.made.op → (d : Verdict) (new : Joint) → Decides (Gives (joint_answer j e.made.caller o) e.made.reply) d j new → JudgesStep h e d j new
@@ -71,14 +69,9 @@ judged-computed h e j o c from to same event = judged h e j o _ same event
     (λ n s. given j e.made.caller o e.made.reply _ n refl (from s.told n s.step))
     (λ n s. record { told = nothing; named = tt; step = to n (computed j e.made.caller o e.made.reply _ n c refl s) })
 
--- a line of the joint machine is computed
-line-computed : (a : Act) → is_joint (op.Line a) ≡ true → IsComputed (op.Line a)
-line-computed (act.Slice n) e = cc
-line-computed _ e = tt
-
 pub judged-line : (h : Finished) (e : Entry) (j : Joint) (a : Act) → e.made.op ≡ op.Line a → IsEvent e.made.caller e.made.op → is_joint e.made.op ≡ true → (d : Verdict) (new : Joint)
     → Decides (Gives (joint_line j e.made.caller a) e.made.reply) d j new → JudgesStep h e d j new
-judged-line h e j a same event joint = judged-computed h e j (op.Line a) (line-computed a (subst (λ o. is_joint o ≡ true) same joint)) (λ told n s. s) (λ n s. s) same event
+judged-line h e j a same event joint = judged-computed h e j (op.Line a) (subst (λ o. is_joint o ≡ true) same joint) (λ told n s. s) (λ n s. s) same event
 
 -- an operation of a managed thread on the peers and handles
 abbrev pub IsOnHandles : Op → Type 0
@@ -86,13 +79,13 @@ IsOnHandles o = ((sort : Sort) × (n : ℕ) × (o ≡ op.Make sort n)) ⊎ (((h 
 
 pub judged-handles : (h : Finished) (e : Entry) (j : Joint) → IsOnHandles e.made.op → IsEvent e.made.caller e.made.op → (d : Verdict) (new : Joint)
     → Decides (Gives (joint_answer j e.made.caller e.made.op) e.made.reply) d j new → JudgesStep h e d j new
-judged-handles h e j (inl w) event d new x = judged-computed h e j (op.Make w.0 w.1) tt (λ told n s. s)
+judged-handles h e j (inl w) event d new x = judged-computed h e j (op.Make w.0 w.1) refl (λ told n s. s)
     (λ n s. s) w.2 event d new (subst (λ o. Decides (Gives (joint_answer j e.made.caller o) e.made.reply) d j new) w.2 x)
-judged-handles h e j (inr (inl w)) event d new x = judged-computed h e j (op.Land w.0 w.1) tt (λ told n s. s)
+judged-handles h e j (inr (inl w)) event d new x = judged-computed h e j (op.Land w.0 w.1) refl (λ told n s. s)
     (λ n s. s) w.2 event d new (subst (λ o. Decides (Gives (joint_answer j e.made.caller o) e.made.reply) d j new) w.2 x)
-judged-handles h e j (inr (inr (inl w))) event d new x = judged-computed h e j (op.Grip w.0) tt (λ told n s. s)
+judged-handles h e j (inr (inr (inl w))) event d new x = judged-computed h e j (op.Grip w.0) refl (λ told n s. s)
     (λ n s. s) w.1 event d new (subst (λ o. Decides (Gives (joint_answer j e.made.caller o) e.made.reply) d j new) w.1 x)
-judged-handles h e j (inr (inr (inr w))) event d new x = judged-computed h e j (op.Release w.0) tt (λ told n s. s)
+judged-handles h e j (inr (inr (inr w))) event d new x = judged-computed h e j (op.Release w.0) refl (λ told n s. s)
     (λ n s. s) w.1 event d new (subst (λ o. Decides (Gives (joint_answer j e.made.caller o) e.made.reply) d j new) w.1 x)
 
 -- an operation of a managed thread on the objects
@@ -102,13 +95,13 @@ IsOnObjects o = ((v : Var) × (kind : Kind) × (n : ℕ) × (p : PNum) × (h : H
 
 pub judged-objects : (h : Finished) (e : Entry) (j : Joint) → IsOnObjects e.made.op → IsEvent e.made.caller e.made.op → (d : Verdict) (new : Joint)
     → Decides (Gives (joint_answer j e.made.caller e.made.op) e.made.reply) d j new → JudgesStep h e d j new
-judged-objects h e j (inl w) event d new x = judged-computed h e j (op.Adopt w.0 w.1 w.2 w.3 w.4) tt (λ told n s. s)
+judged-objects h e j (inl w) event d new x = judged-computed h e j (op.Adopt w.0 w.1 w.2 w.3 w.4) refl (λ told n s. s)
     (λ n s. s) w.5 event d new (subst (λ o. Decides (Gives (joint_answer j e.made.caller o) e.made.reply) d j new) w.5 x)
-judged-objects h e j (inr (inl w)) event d new x = judged-computed h e j (op.Lend w.0 w.1) tt (λ told n s. s)
+judged-objects h e j (inr (inl w)) event d new x = judged-computed h e j (op.Lend w.0 w.1) refl (λ told n s. s)
     (λ n s. s) w.2 event d new (subst (λ o. Decides (Gives (joint_answer j e.made.caller o) e.made.reply) d j new) w.2 x)
-judged-objects h e j (inr (inr (inl w))) event d new x = judged-computed h e j (op.Meet w.0 w.1 w.2 w.3 w.4) tt (λ told n s. s)
+judged-objects h e j (inr (inr (inl w))) event d new x = judged-computed h e j (op.Meet w.0 w.1 w.2 w.3 w.4) refl (λ told n s. s)
     (λ n s. s) w.5 event d new (subst (λ o. Decides (Gives (joint_answer j e.made.caller o) e.made.reply) d j new) w.5 x)
-judged-objects h e j (inr (inr (inr w))) event d new x = judged-computed h e j (op.Give w.0) tt (λ told n s. s)
+judged-objects h e j (inr (inr (inr w))) event d new x = judged-computed h e j (op.Give w.0) refl (λ told n s. s)
     (λ n s. s) w.1 event d new (subst (λ o. Decides (Gives (joint_answer j e.made.caller o) e.made.reply) d j new) w.1 x)
 
 pub judged-restore : (h : Finished) (e : Entry) (j : Joint) (g : HNum) → e.made.op ≡ op.Restore g → IsEvent e.made.caller e.made.op → (d : Verdict) (new : Joint)

@@ -2,16 +2,15 @@
 
 ghost use Rattle.std.specs.Prelude.{◌≡◌, ◌↔◌, ◌<◌, IsTrue, true, false};
 ghost use Rattle.std.specs.Option.{ForSome};
-ghost use Rattle.joint_machine.specs.Heaps.{place};
+ghost use Rattle.joint_machine.specs.Heaps.{place, place_or_none};
 ghost use Rattle.joint_machine.specs.Lines.{IsEvent, IsLine, IsOneEvent, IsManagedAct, IsPeerAct, IsDriverAct};
+ghost use Rattle.joint_machine.specs.Lines.{IsHeapAct};
 ghost use Rattle.joint_machine.specs.Lines.{IsManagedThread, IsPeerThread, IsThread, IsVar, IsVarOrNone, IsPlainObject};
 ghost use Rattle.joint_machine.specs.Lines.{IsBridgeObject};
-ghost use Rattle.joint_machine.specs.Linked.{is_joint};
-ghost use Rattle.joint_machine.specs.Managed.{place_or_none};
-ghost use Rattle.joint_machine.specs.Run.{thread_number};
+ghost use Rattle.joint_machine.specs.Run.{thread_number, is_joint};
 ghost use Rattle.joint_machine.specs.declared.events.Op.TheVariants.{Line};
 ghost use Rattle.joint_machine.specs.declared.names.Sort.{Sort};
-ghost use Rattle.joint_replay.specs.Operations.{IsBridgeEvent, IsPlainAct};
+ghost use Rattle.joint_replay.specs.Operations.{IsBridgeEvent};
 
 use joint_model::{Act, Cell, GName, Kind, Op, StaticNo, Thread, VARS, Var};
 
@@ -101,7 +100,7 @@ fn is_peer_act(act: &Act) -> bool
 
 // Whether the operation is one that both heaps have, within its limits.
 fn is_plain_act(act: &Act) -> bool
-    ensures { IsTrue result ↔ IsPlainAct act.now }
+    ensures { IsTrue result ↔ IsHeapAct act.now }
 {
     match act {
         Act::Copy { v, w } => are_vars(*v, *w),

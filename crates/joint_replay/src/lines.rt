@@ -3,15 +3,15 @@
 ghost use Rattle.std.specs.Prelude.{◌≡◌, ◌+◌, ◌<◌, IfOk, OnErr, Some, None, true};
 ghost use Rattle.joint_machine.specs.declared.names.Thread.{Thread};
 ghost use Rattle.joint_machine.specs.declared.events.Op.TheVariants.{Line};
-ghost use Rattle.joint_machine.specs.Heaps.{slot};
+ghost use Rattle.joint_machine.specs.Heaps.{slot, heap_line};
 ghost use Rattle.joint_machine.specs.Joint.{joint_target};
 ghost use Rattle.joint_machine.specs.Lines.{IsLine, IsOneEvent, IsManagedAct, IsPeerAct, IsManagedThread, IsPeerThread};
-ghost use Rattle.joint_machine.specs.Linked.{is_joint};
+ghost use Rattle.joint_machine.specs.Lines.{IsHeapAct};
 ghost use Rattle.joint_machine.specs.Managed.{managed_line, notices_taken};
 ghost use Rattle.joint_machine.specs.Peers.{globalised, name_freed, name_read, on_peer_heap, peer_made, peer_name};
 ghost use Rattle.joint_machine.specs.Peers.{peer_read};
 ghost use Rattle.joint_machine.specs.Run.{on_managed, on_peers, without, thread_number, joint_line, joint_peer_line};
-ghost use Rattle.joint_replay.specs.Operations.{IsPlainAct, plain_line};
+ghost use Rattle.joint_machine.specs.Run.{is_joint};
 ghost use Rattle.joint_replay.specs.Plain.{strength_as};
 ghost use Rattle.joint_replay.specs.Judging.{Decides, Gives};
 
@@ -104,10 +104,10 @@ impl JointState {
     // An operation of a peer thread that both heaps have.
     fn plain_peer(&mut self, caller: Thread, act: &Act, reply: &Reply) -> Verdict
         requires thread { IsPeerThread caller }
-        requires act { IsPlainAct act.now }
+        requires act { IsHeapAct act.now }
         ensures { Decides (Gives (on_peers self.old
             (on_peer_heap self.old.graph.peers
-            (plain_line peer_name self.old.graph.peers.heap (thread_number caller) act.now))) reply.now)
+            (heap_line peer_name self.old.graph.peers.heap (thread_number caller) act.now))) reply.now)
             result self.old self.new }
     {
         self.peers.plain(caller, act, reply)

@@ -1,13 +1,12 @@
 // The managed part of the joint state.
 
 ghost use Rattle.std.specs.Prelude.{◌≡◌, ℕ, ◌<◌, ◌≤◌, ◌↔◌, false, IsTrue, IfOk, OnErr, None, Contains, length};
-ghost use Rattle.joint_machine.specs.Heaps.{IsLive, MOST};
+ghost use Rattle.joint_machine.specs.Heaps.{IsLive, MOST, heap_line};
 ghost use Rattle.joint_machine.specs.Histories.{managed_numbers};
-ghost use Rattle.joint_machine.specs.Lines.{IsManagedAct, IsManagedThread, IsOneEvent};
+ghost use Rattle.joint_machine.specs.Lines.{IsManagedAct, IsManagedThread, IsOneEvent, IsHeapAct};
 ghost use Rattle.joint_machine.specs.Managed.{opening_managed, on_heap, managed_name, managed_line, handle_of};
 ghost use Rattle.joint_machine.specs.Managed.{IsManagedRoot};
 ghost use Rattle.joint_machine.specs.Run.{thread_number, is_that_handle};
-ghost use Rattle.joint_replay.specs.Operations.{IsPlainAct, plain_line};
 ghost use Rattle.joint_replay.specs.Judging.{Decides, Gives};
 ghost use Rattle.joint_replay.specs.Snaps.{OwesDead};
 
@@ -111,9 +110,9 @@ impl ManagedPart {
     // An operation that both heaps have.
     fn plain(&mut self, caller: Thread, act: &Act, reply: &Reply) -> Verdict
         requires thread { IsManagedThread caller }
-        requires act { IsPlainAct act.now }
+        requires act { IsHeapAct act.now }
         ensures { Decides (Gives (on_heap self.old
-            (plain_line managed_name self.old.heap (thread_number caller) act.now)) reply.now)
+            (heap_line managed_name self.old.heap (thread_number caller) act.now)) reply.now)
             result self.old self.new }
     {
         self.heap.line(Naming::Objects, caller, act, reply)

@@ -3,11 +3,12 @@
 ghost use Rattle.std.specs.Prelude.{◌≡◌, ℕ, ◌<◌, ◌↔◌, IsTrue, Some, None, length};
 ghost use Rattle.std.specs.Option.{ForSome};
 ghost use Rattle.joint_machine.specs.Heaps.{answer, with_var, copied, field_set, read_into, field_got, dropped, loaded};
+ghost use Rattle.joint_machine.specs.Heaps.{heap_line};
 ghost use Rattle.joint_machine.specs.Heaps.{stored};
-ghost use Rattle.joint_machine.specs.Lines.{IsThread};
+ghost use Rattle.joint_machine.specs.Lines.{IsThread, IsHeapAct};
 ghost use Rattle.joint_machine.specs.Run.{thread_number};
 ghost use Rattle.joint_replay.specs.Judging.{Decides, Gives};
-ghost use Rattle.joint_replay.specs.Operations.{name_of, IsPlainAct, plain_line};
+ghost use Rattle.joint_replay.specs.Operations.{name_of};
 
 use crate::callers::{place_of, place_or_none};
 use crate::heap::PlainHeap;
@@ -50,8 +51,8 @@ impl PlainHeap {
         reply: &Reply,
     ) -> Verdict
         requires thread { IsThread caller }
-        requires act { IsPlainAct act.now }
-        ensures verdict { Decides (Gives (plain_line (name_of naming) self.old (thread_number caller) act.now)
+        requires act { IsHeapAct act.now }
+        ensures verdict { Decides (Gives (heap_line (name_of naming) self.old (thread_number caller) act.now)
             reply.now) result self.old self.new }
         ensures freed { self.new.freed ≡ self.old.freed }
         ensures made { length self.new.fields ≡ length self.old.fields }

@@ -4,14 +4,14 @@ ghost use Rattle.std.specs.Prelude.{◌≡◌, ◌<◌, ◌≤◌, ◌↔◌, �
 ghost use Rattle.std.specs.Prelude.{slice_set, false};
 ghost use Rattle.std.specs.Option.{option_map};
 ghost use Rattle.joint_machine.specs.Heaps.{IsMade, is_full, next_number, numbered_at, slot, with_static, fields_of};
+ghost use Rattle.joint_machine.specs.Heaps.{heap_line};
 ghost use Rattle.joint_machine.specs.Heaps.{with_freed};
-ghost use Rattle.joint_machine.specs.Lines.{IsPeerThread};
+ghost use Rattle.joint_machine.specs.Lines.{IsPeerThread, IsHeapAct};
 ghost use Rattle.joint_machine.specs.Peers.{opening_peers, handles_full, with_handle, with_renewed, with_peer, held};
 ghost use Rattle.joint_machine.specs.Peers.{strong, next_handle, peer_of, sort_of, on_peer_heap, peer_made, peer_name};
 ghost use Rattle.joint_machine.specs.Peers.{peer_read, handle_name, landed};
 ghost use Rattle.joint_machine.specs.Run.{thread_number};
 ghost use Rattle.joint_replay.specs.Judging.{Decides, Gives};
-ghost use Rattle.joint_replay.specs.Operations.{IsPlainAct, plain_line};
 ghost use Rattle.joint_replay.specs.Plain.{hold_as, strength_as, issued_as};
 
 use crate::heap::PlainHeap;
@@ -234,9 +234,9 @@ impl PeerPart {
     /// An operation of a peer thread that both heaps have.
     pub(crate) fn plain(&mut self, caller: Thread, act: &Act, reply: &Reply) -> Verdict
         requires thread { IsPeerThread caller }
-        requires act { IsPlainAct act.now }
+        requires act { IsHeapAct act.now }
         ensures verdict { Decides (Gives (on_peer_heap self.old
-            (plain_line peer_name self.old.heap (thread_number caller) act.now)) reply.now) result self.old self.new }
+            (heap_line peer_name self.old.heap (thread_number caller) act.now)) reply.now) result self.old self.new }
         ensures issued { self.new.issued ≡ self.old.issued }
         ensures freed { self.new.heap.freed ≡ self.old.heap.freed }
         ensures made { length self.new.heap.fields ≡ length self.old.heap.fields }

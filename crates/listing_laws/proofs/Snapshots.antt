@@ -62,11 +62,11 @@ phase_is_none : (n : ℕ) (w : PhaseWord) (es : List Entry) → (w ≡ word.Snap
 phase_is_none n word.Snap es d a = absurd (d refl)
 phase_is_none n word.Mark es d a = ⊎_elim
     (λ t. each_is_none word.Mark es d t.each)
-    (λ t. ap snaps_of t.all ∙ (none_first t.sweep (t.begin ∷ []) (ap is_snap t.sweeps) ∙ none_first t.begin [] (event_is_none word.Mark t.begin.made.op d t.begins)))
+    (λ t. ap snaps_of t.4 ∙ (none_first t.0 (t.1 ∷ []) (ap is_snap t.5) ∙ none_first t.1 [] (event_is_none word.Mark t.1.made.op d t.7)))
     a
 phase_is_none n word.Restore es d a =
-    ap snaps_of a.all ∙ (snaps-append a.restores (a.clear ∷ [])
-    ∙ (ap (λ l. l ++ snaps_of (a.clear ∷ [])) (each_is_none word.Restore a.restores d a.times.each) ∙ none_first a.clear [] (clear_is_none a.clear.made.op a.clears)))
+    ap snaps_of a.2 ∙ (snaps-append a.0 (a.1 ∷ [])
+    ∙ (ap (λ l. l ++ snaps_of (a.1 ∷ [])) (each_is_none word.Restore a.0 d a.3.each) ∙ none_first a.1 [] (clear_is_none a.1.made.op a.4)))
 phase_is_none n word.Weaken es d a = each_is_none word.Weaken es d a.each
 phase_is_none n word.Cycle es d a = each_is_none word.Cycle es d a.each
 phase_is_none n word.Contract es d a = each_is_none word.Contract es d a.each

@@ -2,9 +2,9 @@
 
 ghost use Rattle.std.specs.Prelude.{◌≡◌, ℕ, ◌<◌, Some, None};
 ghost use Rattle.std.specs.Option.{ForSome};
-ghost use Rattle.joint_machine.specs.Heaps.{place};
+ghost use Rattle.joint_machine.specs.Heaps.{place, place_or_none};
 ghost use Rattle.joint_machine.specs.Lines.{IsManagedThread, IsVar, IsVarOrNone};
-ghost use Rattle.joint_machine.specs.Managed.{managed_name, place_or_none};
+ghost use Rattle.joint_machine.specs.Managed.{managed_name};
 ghost use Rattle.joint_machine.specs.Run.{thread_number};
 ghost use Rattle.heap_rules.specs.Done.{say};
 

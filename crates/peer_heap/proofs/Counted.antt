@@ -12,9 +12,8 @@ use Rattle.joint_machine.specs.declared.events.Op.{Op}
 use Rattle.joint_machine.specs.declared.events.Op.TheVariants as op
 use Rattle.joint_machine.specs.declared.events.Reply.{Reply}
 use Rattle.joint_machine.specs.declared.events.Reply.TheVariants as says
-use Rattle.joint_machine.specs.Heaps.{Heap, Answered, IsLive, answer, is_full, next_number, place, with_var}
+use Rattle.joint_machine.specs.Heaps.{Heap, Answered, IsLive, answer, is_full, next_number, place, with_var, place_or_none}
 use Rattle.joint_model.specs.Listed.{Stock}
-use Rattle.joint_machine.specs.Managed.{place_or_none}
 use Rattle.joint_machine.specs.PeerReplay.{PeerReplay, on_table, peer_answer}
 use Rattle.joint_machine.specs.Peers.{Issued, Peers, handles_full, held, next_handle, peer_name, strong, with_handle, with_peer}
 use Rattle.joint_machine.specs.Run.{thread_number}

@@ -13,8 +13,7 @@ use Rattle.joint_machine.specs.declared.lines.Act.TheVariants as act
 use Rattle.joint_machine.specs.declared.events.Op.{Op}
 use Rattle.joint_machine.specs.declared.events.Op.TheVariants as op
 use Rattle.joint_machine.specs.declared.events.Reply.TheVariants as says
-use Rattle.joint_machine.specs.Heaps.{Heap, Answered, answer, InSlot, IsLive, slot, place, is_full, fields_of, next_number, with_var, with_field, field_set, field_stored}
-use Rattle.joint_machine.specs.Managed.{place_or_none}
+use Rattle.joint_machine.specs.Heaps.{Heap, Answered, answer, InSlot, IsLive, slot, place, is_full, fields_of, next_number, with_var, with_field, field_set, field_stored, place_or_none}
 use Rattle.joint_machine.specs.Peers.{Peers, Strength, strong, weak, held, raw, peer_name, handle_name, with_peer, with_handle, next_handle, handles_full, on_peer_heap, peer_read, name_given}
 use Rattle.joint_machine.specs.Peers.{globalised, name_freed, gripped, peer_gripped, landed, sort_of}
 use Rattle.joint_machine.specs.PeerReplay.{PeerReplay, Marking, on_table, untabled, brings, table_target, peer_answer}

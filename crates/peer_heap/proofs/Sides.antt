@@ -17,8 +17,7 @@ use Rattle.joint_machine.specs.declared.events.Reply.TheVariants as says
 use Rattle.joint_machine.specs.Draws.{AllBelow, numbered}
 use Rattle.joint_machine.specs.Components.{temporary}
 use Rattle.joint_machine.specs.declared.names.Thread.{Thread}
-use Rattle.joint_machine.specs.Heaps.{Heap, Answered, answer, place}
-use Rattle.joint_machine.specs.Managed.{place_or_none}
+use Rattle.joint_machine.specs.Heaps.{Heap, Answered, answer, place, place_or_none}
 use Rattle.joint_machine.specs.Run.{thread_number}
 use Rattle.joint_machine.specs.Peers.{Issued}
 use Rattle.joint_model.specs.Listed.{Stock}

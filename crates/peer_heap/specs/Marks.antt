@@ -8,8 +8,7 @@ use Rattle.joint_machine.specs.declared.events.Op.{Op}
 use Rattle.joint_machine.specs.declared.events.Op.TheVariants as op
 use Rattle.joint_machine.specs.declared.events.Reply.{Reply}
 use Rattle.joint_machine.specs.declared.events.Reply.TheVariants as says
-use Rattle.joint_machine.specs.Heaps.{place}
-use Rattle.joint_machine.specs.Managed.{place_or_none}
+use Rattle.joint_machine.specs.Heaps.{place, place_or_none}
 use Rattle.joint_machine.specs.PeerReplay.{PeerReplay, Marking, peer_answer}
 use Rattle.joint_machine.specs.Run.{thread_number}
 use Rattle.joint_machine.specs.Told.{nothing}

@@ -5,10 +5,10 @@ ghost use Rattle.std.specs.Prelude.{◌≡◌, ℕ, ◌+◌, ◌<◌, ◌≤◌,
 ghost use Rattle.std.specs.Prelude.{is_some, ◌⊎◌, ◌↔◌, ◌||◌, ◌++◌, [], ◌∷◌, IsTrue, true, false};
 ghost use Rattle.std.specs.Option.{ForSome, option_map};
 ghost use Rattle.joint_machine.specs.Heaps.{IsLive, answer, is_full, next_number, slot, with_object, numbered_at};
+ghost use Rattle.joint_machine.specs.Heaps.{place_or_none};
 ghost use Rattle.joint_machine.specs.Heaps.{numbered_set, copied, field_set, field_got, dropped, loaded, stored, place};
 ghost use Rattle.joint_machine.specs.Histories.{peer_numbers};
 ghost use Rattle.joint_machine.specs.Lines.{IsPeerThread, IsVar, IsVarOrNone};
-ghost use Rattle.joint_machine.specs.Managed.{place_or_none};
 ghost use Rattle.joint_machine.specs.Peers.{peer_name, on_peer_heap, peer_made, handles_full, pair_made, gripped};
 ghost use Rattle.joint_machine.specs.Peers.{landed, globalised, name_given, name_freed, name_read, peer_read};
 ghost use Rattle.joint_machine.specs.PeerReplay.{PeerReplay, TableRow, opening_peer_replay, on_table, untabled, row_of};

@@ -15,10 +15,10 @@ use Rattle.joint_machine.specs.Cycles.{IsDeadContraction}
 use Rattle.joint_machine.specs.Histories.{Finished}
 use Rattle.joint_machine.specs.Joint.{Joint}
 use Rattle.joint_machine.specs.Lines.{IsEvent, is_read}
-use Rattle.joint_machine.specs.Linked.{Linkage, MayCome, linkage_after, is_joint}
+use Rattle.joint_machine.specs.Linked.{Linkage, MayCome, linkage_after}
 use Rattle.joint_machine.specs.Readers.{is_aside, is_set_aside}
 use Rattle.joint_machine.specs.Replaying.{AllMayCome, replayed}
-use Rattle.joint_machine.specs.Run.{JointStep}
+use Rattle.joint_machine.specs.Run.{JointStep, is_joint}
 use Rattle.joint_machine.specs.Told.{Told, Noted, references_of}
 use Rattle.joint_machine.proofs.Deciding.{none_some}
 use Rattle.joint_laws.specs.LinkedInvariants.{DriverInvariant}

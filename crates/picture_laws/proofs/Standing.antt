@@ -8,9 +8,9 @@ use Rattle.joint_machine.specs.declared.events.Entry.{Entry}
 use Rattle.joint_machine.specs.Components.{End, mirror_edges}
 use Rattle.joint_machine.specs.Control.{carried_edges}
 use Rattle.joint_machine.specs.Histories.{Finished}
-use Rattle.joint_machine.specs.Linked.{is_joint}
 use Rattle.joint_machine.specs.Lines.{is_read}
 use Rattle.joint_machine.specs.Readers.{is_set_aside}
+use Rattle.joint_machine.specs.Run.{is_joint}
 use Rattle.joint_machine.proofs.Deciding.{some-same, true-false}
 use Rattle.joint_machine.proofs.Members.{last-or, take-next}
 use Rattle.known_laws.proofs.OneContraction.{is_one_contraction}

@@ -18,7 +18,8 @@ use Rattle.joint_machine.specs.Control.{IsPhaseOf, stand_after}
 use Rattle.joint_machine.specs.Histories.{Finished, managed_numbers, peer_numbers}
 use Rattle.joint_machine.specs.Linked.{Linkage}
 use Rattle.joint_machine.specs.Managed.{Managed, OpenCycle, candidates_of}
-use Rattle.joint_machine.specs.ManagedReplay.{IsRefusedIn, ManagedReplay, MayRefuse, open_reply, refusal_to}
+use Rattle.joint_machine.specs.ManagedReplay.{ManagedReplay, MayRefuse, open_reply, refusal_to}
+use Rattle.joint_machine.specs.Phases.{next_phase}
 use Rattle.joint_machine.specs.Sides.{AddsLawful, managed_rules, step_made}
 use Rattle.joint_machine.specs.Told.{Told, Noted, Answer, nothing, snap_of, contraction_of, references_of, slice_of, sweep_of, resolution_of, phase_of, kept_pins}
 use Rattle.joint_machine.specs.PinsTold.{no_pins}
@@ -237,7 +238,7 @@ module _ (h : Finished) (past : List Noted) (old : Replay) (w : PhaseWord) (inde
   record Tells : Type 0 where
     phase : Phase
     told : phase-told ≡ Some phase
-    refused : IsRefusedIn w phase
+    refused : next_phase phase w ≡ None
     replies : reply ≡ refusal_to s.managed.managed phase w
 
   only : (told : Told) → SideReplies h past (next_noted past (refusing w index reply) told) → Tells
@@ -261,7 +262,7 @@ module _ (h : Finished) (past : List Noted) (old : Replay) (w : PhaseWord) (inde
   pub none-right : IsRefusedAt w phase-told None → MayNotReply h past (refusing w index reply)
   none-right never told r = (let t = only told r in never t.phase t.told t.refused)
 
-  module _ (p : Phase) (at-is : phase-told ≡ Some p) (refused : IsRefusedIn w p) where
+  module _ (p : Phase) (at-is : phase-told ≡ Some p) (refused : next_phase p w ≡ None) where
     is-phase : IsPhaseOf s.control.stand (length (candidates_of s.managed.managed)) p
     is-phase = phase-sound s.control.stand (length (candidates_of s.managed.managed)) reply p at-is
 

@@ -6,4 +6,3 @@ pub mod Lists
 pub mod Phases
 pub mod Going
 pub mod Noting
-pub mod Lines

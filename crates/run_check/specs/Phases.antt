@@ -1,12 +1,12 @@
 -- In which phase a word was refused: the one that the reply names, where the driver may be in it, and else the plain
 -- one.
 use Rattle.std.specs.Prelude.{◌≡◌, ℕ, Bool, true, false, ◌&&◌, not, nat_eq, if◌then◌else◌, Option, Some, None}
+use Rattle.joint_machine.specs.Phases.{next_phase}
 use Rattle.joint_machine.specs.declared.names.Phase.{Phase}
 use Rattle.joint_machine.specs.declared.names.Phase.TheVariants as at
 use Rattle.joint_machine.specs.declared.names.PhaseWord.{PhaseWord}
 use Rattle.joint_machine.specs.declared.events.Reply.{Reply}
 use Rattle.joint_machine.specs.declared.events.Reply.TheVariants as says
-use Rattle.joint_machine.specs.ManagedReplay.{IsRefusedIn}
 use Rattle.caller_turns.specs.declared.stands.Stand.{Stand}
 use Rattle.caller_turns.specs.declared.stands.Stand.TheVariants as stand
 
@@ -39,5 +39,5 @@ told_phase d candidates reply = plain_phase d candidates
 
 -- the word is refused in it
 abbrev pub IsRefusedAt : PhaseWord → Option Phase → Option Phase → Type 0
-IsRefusedAt word told None = (p : Phase) → told ≡ Some p → IsRefusedIn word p → ⊥
-IsRefusedAt word told (Some p) = (told ≡ Some p) × IsRefusedIn word p
+IsRefusedAt word told None = (p : Phase) → told ≡ Some p → next_phase p word ≡ None → ⊥
+IsRefusedAt word told (Some p) = (told ≡ Some p) × (next_phase p word ≡ None)

@@ -1,9 +1,8 @@
 // Which callers and events an entry can name.
 
 ghost use Rattle.std.specs.Prelude.{◌≤◌, ◌↔◌, IsTrue};
-ghost use Rattle.joint_machine.specs.Lines.{IsAdoptable, IsDriverAct, IsLine, IsManagedAct, IsNamed, IsOneEvent};
-ghost use Rattle.joint_machine.specs.Lines.{IsPeerAct, IsPlainObject, IsThread, IsVar, IsVarOrNone};
-ghost use Rattle.run_check.specs.Lines.{IsCommonAct};
+ghost use Rattle.joint_machine.specs.Lines.{IsAdoptable, IsDriverAct, IsHeapAct, IsLine, IsManagedAct, IsNamed};
+ghost use Rattle.joint_machine.specs.Lines.{IsOneEvent, IsPeerAct, IsPlainObject, IsThread, IsVar, IsVarOrNone};
 
 use joint_model::{Act, Kind, Op, Thread, Var};
 
@@ -60,7 +59,7 @@ fn are_vars(v: Var, w: Var) -> bool
 // Whether the operation is one that both heaps have, within its limits.
 #[inline(always)]
 fn is_common_line(act: Act) -> bool
-    ensures { IsTrue result ↔ IsCommonAct act }
+    ensures { IsTrue result ↔ IsHeapAct act }
 {
     match act {
         Act::Copy { v, w } => are_vars(v, w),

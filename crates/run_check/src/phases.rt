@@ -1,7 +1,7 @@
 // In which phase a word was refused, by the reply, and whether it may be refused there.
 
-ghost use Rattle.std.specs.Prelude.{◌≡◌, ◌↔◌, IsTrue};
-ghost use Rattle.joint_machine.specs.ManagedReplay.{IsRefusedIn};
+ghost use Rattle.std.specs.Prelude.{◌≡◌, ◌↔◌, IsTrue, None};
+ghost use Rattle.joint_machine.specs.Phases.{next_phase};
 ghost use Rattle.run_check.specs.Phases.{IsRefusedAt, is_weakened, plain_phase, told_phase, weakening_phase};
 
 use caller_turns::Stand;
@@ -9,7 +9,7 @@ use joint_model::{Phase, PhaseWord, Reply};
 
 // Whether the word is refused in the phase: its own phase isn't the next one.
 fn is_refused(phase: Phase, word: PhaseWord) -> bool
-    ensures { IsTrue result ↔ IsRefusedIn word phase }
+    ensures { IsTrue result ↔ (next_phase phase word ≡ None) }
 {
     match word {
         PhaseWord::Cycle | PhaseWord::Snap => !matches!(phase, Phase::Idle),

@@ -2,6 +2,7 @@
 -- had heard of that; so the history, whose numbers rise, is a beginning without the cycle's entries and then these. The
 -- beginning has of each thread just what its caller had before the cycle.
 use Rattle.std.proofs.Common.{◌≡◌, ◌⊎◌, inl, inr, ⊎_elim, ℕ, ◌+◌, ◌<◌, ◌^◌, true, false, List, [], ◌∷◌, ◌++◌, length, refl, sym, ◌∙◌, ap, subst, arith, append_assoc}
+use Rattle.std.specs.Prelude.{unwrap_or}
 use Rattle.std.specs.Prelude.{All, Contains, if◌then◌else◌}
 use Rattle.std.proofs.lemmas.Bool.{cases_Bool}
 use Rattle.std.proofs.lemmas.List.{append-nil, append_cancel_right}
@@ -29,7 +30,7 @@ use Rattle.joint_history.specs.Desks.{Waiting}
 use Rattle.joint_history.specs.Ending.{HasAll, HasOwn, IsFinished, StillWaits}
 use Rattle.joint_history.specs.Knowing.{line_known}
 use Rattle.script_laws.specs.Growing.{numbers_of}
-use Rattle.script_laws.specs.Holding.{Standing, opening_standing, phase_after, standing_after, AreLine, AreLeft, HoldsLines, numbered_from, lines_of, entries_by}
+use Rattle.script_laws.specs.Holding.{Standing, opening_standing, standing_after, AreLine, AreLeft, HoldsLines, numbered_from, lines_of, entries_by}
 use Rattle.script_laws.specs.SoFar.{HoldsSoFar}
 use Rattle.script_laws.specs.Closing.{ResolvesLater, ResolveComes, CycleCloses, AllCyclesClose}
 use Rattle.script_laws.proofs.AllThreads.{is_one, no-lines}
@@ -97,7 +98,7 @@ ends-both (e ∷ es) fs a b = (by e.made.op a.0, ends-both es fs a.1 b)
 
 -- a cycle leads from the idle driver to the idle driver
 cycle-idle : (s : Standing) (number : ℕ) (es : List Entry) → s.phase ≡ at.Idle → (standing_after s number cycle_line.1 es).phase ≡ at.Idle
-cycle-idle s number es i = subst (λ (p : Phase). phase_after p (next_phase p word.Cycle) ≡ at.Idle) (sym i) refl
+cycle-idle s number es i = subst (λ (p : Phase). unwrap_or (next_phase p word.Cycle) p ≡ at.Idle) (sym i) refl
 
 -- a cycle ends itself
 cycle-ends : (number : ℕ) (es : List Entry) → AreWholeCycle number es → AllCyclesClose es

@@ -23,7 +23,7 @@ use Rattle.run_laws.proofs.InOrderEnds.{history-events, history-threads, read-ma
 use Rattle.run_laws.proofs.Answering.{lone}
 
 pub more_waits_end : MoreWaitsEnd
-more_waits_end es fs a b e c w = ⊎_elim (λ d. a e d w) (λ d. b e d w) (Contains-append_cases es fs e c)
+more_waits_end es fs a b e c k o waits pending = ⊎_elim (λ d. a e d k o waits pending) (λ d. b e d k o waits pending) (Contains-append_cases es fs e c)
 
 -- an operation whose first event waits is a wait
 waits-first : (a : Act) (k : Cell) → op.Line (act.Await k) ≡ first_of a → a ≡ act.Await k
@@ -41,21 +41,21 @@ waits-first a k e = ap (λ (o : Op). elim-line o) (sym e)
     elim-line o = act.Await k
 
 pub operations_waits_end : OperationsWaitsEnd
-operations_waits_end t index a es r o never e c w =
-    let l = lone t index a es r o e (ap is_read w.waits) c in
-    never w.cell w.cycle (waits-first a w.cell (sym w.waits ∙ l.first)) (sym l.reply ∙ w.pending)
+operations_waits_end t index a es r o never e c k cycle waits pending =
+    let l = lone t index a es r o e (ap is_read waits) c in
+    never k cycle (waits-first a k (sym waits ∙ l.first)) (sym l.reply ∙ pending)
 
 pub callers_waits_end : CallersWaitsEnd
-callers_waits_end h d callers k all owns none ends e c w =
+callers_waits_end h d callers k all owns none ends e c cell cycle waits pending =
     let t = e.made.caller in
     let is = history-threads h k.noted k.linked e c in
-    let managed : IsManagedThread t = read-managed t e.made.op (history-events h k.noted k.linked e c) (ap is_read w.waits) in
+    let managed : IsManagedThread t = read-managed t e.made.op (history-events h k.noted k.linked e c) (ap is_read waits) in
     let mine : Contains (entries_by t h.entries) e = Contains-filter_to (λ z. is_thread t z.made.caller) h.entries e c (thread_itself t) in
     ⊎_elim
-    (λ waits. Contains-nil e (subst (λ l. Contains l e) (sym (made_is_by t h.entries) ∙ none t is waits) mine))
+    (λ nothing. Contains-nil e (subst (λ l. Contains l e) (sym (made_is_by t h.entries) ∙ none t is nothing) mine))
     (λ given.
     let g = Contains-map_cases (λ (p : Pass). p.thread) callers t given in
     let own_is = All-contains (HasOwn h.entries) callers g.0 owns g.1 in
     let ended = All-contains (λ (p : Pass). IsManagedThread p.thread → WaitsEnd (own p)) callers g.0 ends g.1 (subst IsManagedThread (sym g.2) managed) in
-    ended e (subst (λ l. Contains l e) (sym (made_is_by g.0.thread h.entries) ∙ own_is) (subst (λ u. Contains (entries_by u h.entries) e) (sym g.2) mine)) w)
+    ended e (subst (λ l. Contains l e) (sym (made_is_by g.0.thread h.entries) ∙ own_is) (subst (λ u. Contains (entries_by u h.entries) e) (sym g.2) mine)) cell cycle waits pending)
     (all t is)

@@ -2,6 +2,7 @@
 -- left at the end lead to the idle one, and of all events only those of the first and the last phase open or end a
 -- cycle: so behind a snap the resolve comes before the next snap, and nothing is abandoned.
 use Rattle.std.proofs.Common.{◌≡◌, ◌⊎◌, inl, inr, ℕ, List, [], ◌∷◌, ◌++◌, Option, Some, None, refl, sym, ◌∙◌, ap, subst, append_assoc}
+use Rattle.std.specs.Prelude.{unwrap_or}
 use Rattle.std.proofs.lemmas.List.{append-nil}
 use Rattle.std.proofs.lemmas.Option.{same_Some}
 use Rattle.joint_machine.specs.declared.names.Thread.{Thread}
@@ -18,7 +19,7 @@ use Rattle.joint_machine.specs.declared.events.Reply.{Reply}
 use Rattle.joint_machine.specs.declared.events.Reply.TheVariants as says
 use Rattle.joint_machine.specs.declared.events.Entry.{Entry}
 use Rattle.joint_machine.specs.Phases.{next_phase, phases_left, phases_of, IsEventOf, IsClear, AreEach, AreTimes, AreMarkAfterSweep, ArePhase, candidates_after, ArePhases}
-use Rattle.script_laws.specs.Holding.{next_event, AreEventsAfter, Standing, AreWord, AreEvents, phase_after, standing_after, HoldsLines, HoldsInOrder, HoldsPerThread, opening_standing, numbered_from}
+use Rattle.script_laws.specs.Holding.{next_event, AreEventsAfter, Standing, AreWord, AreEvents, standing_after, HoldsLines, HoldsInOrder, HoldsPerThread, opening_standing, numbered_from}
 use Rattle.script_laws.specs.Holding.{lines_of, entries_by}
 use Rattle.script_laws.specs.Closing.{ResolvesLater, ResolveComes, CycleCloses, AllCyclesClose}
 
@@ -104,12 +105,12 @@ calm-append (x ∷ xs) ys a b = (a.0, calm-append xs ys a.1 b)
 
 mark-calm : (es : List Entry) → AreTimes word.Mark 1 es ⊎ AreMarkAfterSweep es → AreCalm es
 mark-calm es (inl a) = each-calm word.Mark es tt a.each
-mark-calm es (inr a) = subst AreCalm (sym a.all) (subst IsCalm (sym a.sweeps) tt, (event-calm word.Mark a.begin.made.op tt a.begins, tt))
+mark-calm es (inr a) = subst AreCalm (sym a.4) (subst IsCalm (sym a.5) tt, (event-calm word.Mark a.1.made.op tt a.7, tt))
 
 phase-calm : (n : ℕ) (w : PhaseWord) (es : List Entry) → IsMiddle w → ArePhase n w es → AreCalm es
 phase-calm n word.Weaken es m a = each-calm word.Weaken es tt a.each
 phase-calm n word.Mark es m a = mark-calm es a
-phase-calm n word.Restore es m a = subst AreCalm (sym a.all) (calm-append a.restores (a.clear ∷ []) (each-calm word.Restore a.restores tt a.times.each) (clear-calm a.clear.made.op a.clears, tt))
+phase-calm n word.Restore es m a = subst AreCalm (sym a.2) (calm-append a.0 (a.1 ∷ []) (each-calm word.Restore a.0 tt a.3.each) (clear-calm a.1.made.op a.4, tt))
 phase-calm n word.Cycle es m a = each-calm word.Cycle es tt a.each
 phase-calm n word.Contract es m a = each-calm word.Contract es tt a.each
 phase-calm n word.Mirror es m a = each-calm word.Mirror es tt a.each
@@ -214,7 +215,7 @@ word-leads p word.Restore q e = (q, e, refl)
 word-leads p word.Resolve q e = (q, e, refl)
 
 word-ends : (s : Standing) (w : PhaseWord) (next : Option Phase) (es rest : List Entry) → next_phase s.phase w ≡ next
-    → AreWord s w next es → EndsFrom (phase_after s.phase next) rest → EndsFrom s.phase (es ++ rest)
+    → AreWord s w next es → EndsFrom (unwrap_or next s.phase) rest → EndsFrom s.phase (es ++ rest)
 word-ends s w None es rest e a b = calm-from s.phase es rest (subst AreCalm (sym a.all) (subst IsCalm (sym a.refuses) tt, tt)) b
 word-ends s w (Some q) es rest e a b = phases-end s.candidates s.phase (phases_of w) q es rest (word-leads s.phase w q e) a b
 

@@ -79,16 +79,16 @@ one-sweep number e e' p p' = one-op number C e e' (p ∙ sym p') (subst (λ (o :
 
 mark-shares : (number : ℕ) (es es' : List Entry) → AreTimes word.Mark 1 es ⊎ AreMarkAfterSweep es → AreTimes word.Mark 1 es' ⊎ AreMarkAfterSweep es' → Shares number C es es'
 mark-shares number es es' (inl a) (inl b) = times-share number word.Mark 1 es es' a b
-mark-shares number es es' (inl a) (inr b) = shares-by number C es es' es (b.sweep ∷ b.begin ∷ []) refl b.all (first-shares number es b.sweep (b.begin ∷ []) a b.sweeps)
-mark-shares number es es' (inr a) (inl b) = shares-by number C es es' (a.sweep ∷ a.begin ∷ []) es' a.all refl (first-shares-back number a.sweep (a.begin ∷ []) es' a.sweeps b)
-mark-shares number es es' (inr a) (inr b) = shares-by number C es es' (a.sweep ∷ a.begin ∷ []) (b.sweep ∷ b.begin ∷ []) a.all b.all
-    (shares-cons number C a.sweep b.sweep (a.begin ∷ []) (b.begin ∷ []) (one-sweep number a.sweep b.sweep a.sweeps b.sweeps)
-    (λ e. shares-cons number C a.begin b.begin [] [] (one-phase number word.Mark a.begin b.begin a.begins b.begins) (λ f. shares-none number C)))
+mark-shares number es es' (inl a) (inr b) = shares-by number C es es' es (b.0 ∷ b.1 ∷ []) refl b.4 (first-shares number es b.0 (b.1 ∷ []) a b.5)
+mark-shares number es es' (inr a) (inl b) = shares-by number C es es' (a.0 ∷ a.1 ∷ []) es' a.4 refl (first-shares-back number a.0 (a.1 ∷ []) es' a.5 b)
+mark-shares number es es' (inr a) (inr b) = shares-by number C es es' (a.0 ∷ a.1 ∷ []) (b.0 ∷ b.1 ∷ []) a.4 b.4
+    (shares-cons number C a.0 b.0 (a.1 ∷ []) (b.1 ∷ []) (one-sweep number a.0 b.0 a.5 b.5)
+    (λ e. shares-cons number C a.1 b.1 [] [] (one-phase number word.Mark a.1 b.1 a.7 b.7) (λ f. shares-none number C)))
 
 restores-share : (number n : ℕ) (es es' : List Entry) → AreRestores n es → AreRestores n es' → Shares number C es es'
-restores-share number n es es' a b = shares-by number C es es' (a.restores ++ a.clear ∷ []) (b.restores ++ b.clear ∷ []) a.all b.all
-    (shares-then number C a.restores b.restores (a.clear ∷ []) (b.clear ∷ []) (times-share number word.Restore n a.restores b.restores a.times b.times)
-    (λ e. shares-cons number C a.clear b.clear [] [] (one-clear number a.clear b.clear a.clears b.clears) (λ f. shares-none number C)))
+restores-share number n es es' a b = shares-by number C es es' (a.0 ++ a.1 ∷ []) (b.0 ++ b.1 ∷ []) a.2 b.2
+    (shares-then number C a.0 b.0 (a.1 ∷ []) (b.1 ∷ []) (times-share number word.Restore n a.0 b.0 a.3 b.3)
+    (λ e. shares-cons number C a.1 b.1 [] [] (one-clear number a.1 b.1 a.4 b.4) (λ f. shares-none number C)))
 
 phase-shares : (number n : ℕ) (w : PhaseWord) (es es' : List Entry) → ArePhase n w es → ArePhase n w es' → Shares number C es es'
 phase-shares number n word.Weaken es es' a b = times-share number word.Weaken n es es' a b

@@ -208,7 +208,7 @@ cycle-held = (
                   cut 5 1,
                   cut 6 1,
                   refl,
-                  record { restores = []; clear = last; all = refl; times = record { each = tt; count = refl }; clears = tt },
+                  ([], last, refl, record { each = tt; count = refl }, tt),
                   (cut 6 1, [], refl, record { each = (tt, tt); count = refl }, refl),
                 ),
               ),

@@ -2,6 +2,7 @@
 -- the phases that the driver's lines have left open.
 -- Believed: the clauses of the program's top call rest on all that stands here.
 use Rattle.std.specs.Prelude.{◌≡◌, ℕ, ◌+◌, List, [], ◌∷◌, ◌++◌, filter, Option, Some, None}
+use Rattle.std.specs.Prelude.{unwrap_or}
 use Rattle.joint_machine.specs.declared.names.Thread.{Thread}
 use Rattle.joint_machine.specs.declared.names.Thread.TheVariants.{C}
 use Rattle.joint_machine.specs.declared.names.Phase.{Phase}
@@ -64,16 +65,11 @@ abbrev pub AreEvents : Standing → Act → List Entry → Type 0
 AreEvents s (act.PhaseLine w) entries = AreWord s w (next_phase s.phase w) entries
 AreEvents s a entries = AreEventsAfter a [] entries
 
--- the phase after a word, which stays where the word is refused
-abbrev pub phase_after : Phase → Option Phase → Phase
-phase_after phase None = phase
-phase_after phase (Some next) = next
-
--- where the driver stands after a line with that number and those entries
+-- where the driver stands after a line with that number and those entries; a word that is refused leaves its phase
 abbrev pub standing_after : Standing → ℕ → Act → List Entry → Standing
 standing_after s number (act.PhaseLine w)
     entries = record {
-      phase = phase_after s.phase (next_phase s.phase w);
+      phase = unwrap_or (next_phase s.phase w) s.phase;
       candidates = candidates_after s.candidates entries;
       line = number;
     }

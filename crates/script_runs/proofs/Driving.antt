@@ -2,6 +2,7 @@
 -- the phase after it: `cycle` runs all eight phases, which lead from idle back to it; a word that is refused, and a
 -- `finalise`, leave the driver where it stands.
 use Rattle.std.proofs.Common.{◌≡◌, ℕ, List, [], ◌∷◌, Option, Some, None, refl, sym, ◌∙◌, ap, subst}
+use Rattle.std.specs.Prelude.{unwrap_or}
 use Rattle.std.specs.Prelude.{Result, Ok, Err, OnErr, OnOk}
 use Rattle.joint_machine.specs.declared.names.Phase.{Phase}
 use Rattle.joint_machine.specs.declared.names.Phase.TheVariants as at
@@ -16,7 +17,7 @@ use Rattle.joint_machine.specs.declared.events.Entry.{Entry}
 use Rattle.joint_machine.specs.Lines.{IsLine}
 use Rattle.joint_machine.specs.Phases.{next_phase, phases_left, phases_of, ArePhases, AreRefusal, candidates_after}
 use Rattle.bridge_cycle.specs.Progress.{Progress, AreDriversOnLine, AreNotices, LeadTo, MakesOne, RunsWords, RunsLine, RunsAct, RunsPhases, RunsWord}
-use Rattle.script_laws.specs.Holding.{Standing, phase_after, AreEventsAfter, AreWord, AreOnLine}
+use Rattle.script_laws.specs.Holding.{Standing, AreEventsAfter, AreWord, AreOnLine}
 use Rattle.script_runs.specs.Running.{DrivesLeft, DrivesLine, StandsAs}
 use Rattle.joint_machine.proofs.Deciding.{some-same, none_some}
 
@@ -81,7 +82,7 @@ module _ (old new : Progress) (index : ℕ) (w : PhaseWord) (es : List Entry) wh
       events = subst (λ o. AreWord s w o es) (sym (leads s at_s)) (subst (λ n. ArePhases n (phases_of w) es) (sym at_s.candidates) k.events);
     };
     stands = λ s at_s. record {
-      phase = ap (phase_after s.phase) (leads s at_s) ∙ sym (word-leads w old.phase next new.phase e k.leads);
+      phase = ap (λ next. unwrap_or next s.phase) (leads s at_s) ∙ sym (word-leads w old.phase next new.phase e k.leads);
       candidates = ap (λ n. candidates_after n es) at_s.candidates ∙ sym k.enters.candidates;
     };
     last = λ s. refl;
@@ -101,7 +102,7 @@ module _ (old new : Progress) (index : ℕ) (w : PhaseWord) (es : List Entry) wh
       events = subst (λ o. AreWord s w o es) (sym (leads s at_s)) (subst (λ p. AreRefusal p w es) (sym at_s.phase) k.1);
     };
     stands = λ s at_s. record {
-      phase = ap (phase_after s.phase) (leads s at_s) ∙ (at_s.phase ∙ sym k.0.phase);
+      phase = ap (λ next. unwrap_or next s.phase) (leads s at_s) ∙ (at_s.phase ∙ sym k.0.phase);
       candidates = ap (λ n. candidates_after n es) at_s.candidates ∙ sym k.0.enters.candidates;
     };
     last = λ s. refl;

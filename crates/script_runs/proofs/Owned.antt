@@ -49,7 +49,7 @@ own_waits p q index a same k before is =
     subst WaitsEnd (sym more) (more_waits_end (own p) k.made_line.entries (before is') (k.waits is'))
 
 pub none_waits : (p : Pass) → KnowsNothing p.view → IsManagedThread p.thread → WaitsEnd (own p)
-none_waits p k is e c w = Contains-nil e (subst (λ es. Contains es e) (own_nothing p k) c)
+none_waits p k is e c cell cycle waits pending = Contains-nil e (subst (λ es. Contains es e) (own_nothing p k) c)
 
 pub other_holds : (script : List (Thread × Act)) (n : ℕ) (p : Pass) (line : Thread × Act) → slice_get script n ≡ Some line
     → is_thread p.thread line.0 ≡ false → HoldsItsFirst script n p opening_standing → HoldsItsFirst script (n + 1) p opening_standing

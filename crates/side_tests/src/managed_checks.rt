@@ -3,7 +3,7 @@
 ghost use Rattle.std.specs.Prelude.{◌≡◌, ◌↔◌, IfSome, IsTrue, None};
 ghost use Rattle.joint_machine.specs.Heaps.{IsLive};
 ghost use Rattle.joint_machine.specs.Lines.{IsManagedAct, IsOneEvent};
-ghost use Rattle.joint_machine.specs.ManagedReplay.{IsRefusedIn};
+ghost use Rattle.joint_machine.specs.Phases.{next_phase};
 ghost use Rattle.managed_heap.specs.Steps.{CitesRightly, IsManagedStep, IsStepAct};
 ghost use Rattle.side_tests.specs.Drives.{NamesNext};
 
@@ -13,7 +13,7 @@ use managed_heap::ManagedSide;
 
 /// Whether this is one of the words and phases of the tables, and is refused in that phase.
 pub(crate) fn is_refused(word: PhaseWord, phase: Phase) -> bool
-    ensures { IsTrue result → IsRefusedIn word phase }
+    ensures { IsTrue result → next_phase phase word ≡ None }
 {
     match phase {
         Phase::Idle => !matches!(word, PhaseWord::Cycle | PhaseWord::Snap),

@@ -12,7 +12,6 @@ use Rattle.joint_machine.specs.declared.events.Reply.{Reply}
 use Rattle.joint_machine.specs.declared.events.Reply.TheVariants as says
 use Rattle.joint_machine.specs.Heaps.{Heap, IsMade, Answered, answer, slot, place, is_full, is_freed}
 use Rattle.joint_machine.specs.Managed.{Managed, OpenCycle, managed_name, managed_line, with_row, adopted, cell_set, target_read, cell_read, read_cell, without_handle, given_up, twin_met, met}
-use Rattle.joint_machine.specs.Managed.{place_or_none}
 use Rattle.joint_machine.specs.ManagedReplay.{ManagedReplay, registered, managed_answer, ManagedAllows}
 use Rattle.joint_machine.specs.Run.{thread_number}
 use Rattle.joint_machine.specs.Told.{Told, nothing, snap_of, contraction_of, resolution_of, phase_of}
@@ -20,7 +19,7 @@ use Rattle.joint_machine.proofs.Deciding.{option-cases, test-cases}
 use Rattle.joint_machine.proofs.HeapLemmas.{adopt_by-managed, adopt_by-reply}
 use Rattle.joint_laws.specs.ManagedInvariants.{ReplayInvariant}
 use Rattle.joint_laws.proofs.Fields.{with_object-length}
-use Rattle.joint_laws.proofs.HeapMoves.{HasMoved, copied-moved, field_set-moved, field_got-moved, dropped-moved, loaded-moved, stored-moved}
+use Rattle.joint_laws.proofs.HeapMoves.{HasMoved, heap_line-moved}
 use Rattle.joint_laws.proofs.ManagedSteps.{meet_by-managed, meet_by-reply, give_by-managed, give_by-reply}
 use Rattle.joint_laws.proofs.PlainReplies.{IsPlain, line-plain, handle-plain, refusal-plain}
 use Rattle.run_summary.specs.Tallies.{makes_managed, opens_cycle, freed_managed}
@@ -92,18 +91,13 @@ module _ (s : Managed) where
 
   line-same : (t : ℕ) (a : Act) → MakesNone a → Same (managed_line s t a)
   line-same t (act.New v kind n) e = absurd e
-  line-same t (act.Copy v w) e = moved _ (copied-moved managed_name s.heap (place t v.0) (place t w.0))
-  line-same t (act.Set v i w) e = moved _ (field_set-moved s.heap (place t v.0) i (place_or_none t w))
-  line-same t (act.Get v w i) e = moved _ (field_got-moved managed_name s.heap (place t v.0) (place t w.0) i)
-  line-same t (act.Drop v) e = moved _ (dropped-moved s.heap (place t v.0))
-  line-same t (act.Load v x) e = moved _ (loaded-moved managed_name s.heap (place t v.0) x.0)
-  line-same t (act.Store x v) e = moved _ (stored-moved s.heap x.0 (place_or_none t v))
   line-same t (act.Weak k v) e = option-cases Same _ _ (slot s.heap.vars (place t v.0)) (same-stay s) (λ x. cell-same k.0 x (slot s.cells k.0))
   line-same t (act.Read k) e = read-same t k.0
   line-same t (act.Await k) e = read-same t k.0
   line-same t (act.Take v) e = option-cases Same _ _ (slot s.pins t) (same-stay s) (λ x. (counts-alike _ _ refl refl, refl))
   line-same t (act.Finalise n) e = (counts-alike _ _ refl refl, refl)
-  line-same t _ e = same-stay s
+  line-same t (act.Handle v) e = same-stay s
+  line-same t a e = moved _ (heap_line-moved managed_name s.heap t a)
 
 -- a further row
 row-counts : (s : Managed) (o : Op) (v : ℕ) (kind : Kind) (n : ℕ) (h : Option ℕ) (r : Reply) → ((x : ℕ) → Contains s.heap.freed x → IsMade s.heap x)

@@ -14,7 +14,6 @@ use Rattle.joint_machine.specs.declared.events.Reply.{Reply}
 use Rattle.joint_machine.specs.declared.events.Reply.TheVariants as says
 use Rattle.joint_machine.specs.Components.{Rises, End}
 use Rattle.joint_machine.specs.Heaps.{Heap, IsLive, Answered, answer, slot, place, is_full, numbered_set}
-use Rattle.joint_machine.specs.Managed.{place_or_none}
 use Rattle.joint_machine.specs.Peers.{with_renewed, peer_of, Peers, Issued, Strength, strong, weak, held, raw, peer_name, pair_made, peer_gripped, landed, name_given, peer_read, name_read}
 use Rattle.joint_machine.specs.Peers.{on_peer_heap, peer_line, issued_since, handles_full}
 use Rattle.joint_machine.specs.PeerReplay.{PeerReplay, TableRow, Marking, row_of, fresh_row, table_target, on_table, bring_by, untabled, peer_thread_line, is_thread, sliced, begun, swept, restored_by}
@@ -27,7 +26,7 @@ use Rattle.joint_machine.proofs.Numbered.{slot-named, slot-Contains}
 use Rattle.joint_laws.specs.PeerInvariants.{PeerInvariant, IsTabled}
 use Rattle.joint_laws.proofs.Fields.{with_object-length}
 use Rattle.joint_laws.proofs.HandleKeeping.{held-raw, issued-same}
-use Rattle.joint_laws.proofs.HeapMoves.{HasMoved, copied-moved, field_set-moved, field_got-moved, dropped-moved, loaded-moved, stored-moved}
+use Rattle.joint_laws.proofs.HeapMoves.{HasMoved, heap_line-moved}
 use Rattle.joint_laws.proofs.PeerEvents.{freed_by}
 use Rattle.joint_laws.proofs.PeerQuiet.{table-still, table-issued}
 use Rattle.joint_laws.proofs.PlainReplies.{IsPlain, peer_line-plain, sliced-plain}
@@ -163,23 +162,13 @@ module _ (s : PeerReplay) (k : PeerInvariant s) (names : NamesInvariant s.peers.
       (stays (op.Line (act.NewPeer v n)) says.Full (record { makes = refl; gives = refl; takes = refl; none = refl }))
       (still (op.Line (act.NewPeer v n)) _ true (record { makes = refl; gives = refl; takes = refl; none = refl })
       (counts-object s.peers.heap _ (with_object-length s.peers.heap n) refl k.heap.freed) refl refl refl)
-  line-counts t (act.Copy v w) = moved-counts (op.Line (act.Copy v w)) (λ r. refl) (λ r. refl) (λ r. refl) _
-      (copied-moved peer_name s.peers.heap (place t v.0) (place t w.0)) (peer_line-plain s.peers (table_target s) t (act.Copy v w))
-  line-counts t (act.Set v i w) = moved-counts (op.Line (act.Set v i w)) (λ r. refl) (λ r. refl) (λ r. refl) _
-      (field_set-moved s.peers.heap (place t v.0) i (place_or_none t w)) (peer_line-plain s.peers (table_target s) t (act.Set v i w))
-  line-counts t (act.Get v w i) = moved-counts (op.Line (act.Get v w i)) (λ r. refl) (λ r. refl) (λ r. refl) _
-      (field_got-moved peer_name s.peers.heap (place t v.0) (place t w.0) i) (peer_line-plain s.peers (table_target s) t (act.Get v w i))
-  line-counts t (act.Drop v) = moved-counts (op.Line (act.Drop v)) (λ r. refl) (λ r. refl) (λ r. refl) _ (dropped-moved s.peers.heap (place t v.0)) tt
-  line-counts t (act.Load v x) = moved-counts (op.Line (act.Load v x)) (λ r. refl) (λ r. refl) (λ r. refl) _
-      (loaded-moved peer_name s.peers.heap (place t v.0) x.0) (peer_line-plain s.peers (table_target s) t (act.Load v x))
-  line-counts t (act.Store x v) = moved-counts (op.Line (act.Store x v)) (λ r. refl) (λ r. refl) (λ r. refl) _
-      (stored-moved s.peers.heap x.0 (place_or_none t v)) (peer_line-plain s.peers (table_target s) t (act.Store x v))
   line-counts t (act.Global g v) = global-counts (op.Line (act.Global g v)) (λ r. refl) (λ r. refl) (λ r. refl) g.0 (place t v.0) strong
   line-counts t (act.WGlobal g v) = global-counts (op.Line (act.WGlobal g v)) (λ r. refl) (λ r. refl) (λ r. refl) g.0 (place t v.0) weak
   line-counts t (act.UnGlobal g) = unglobal-counts g.0 g (slot s.peers.names g.0) refl
   line-counts t (act.WRead v g) = brought (on_table s (peer_line (table_target s) s.peers t (act.WRead v g))) (peer_line (table_target s) s.peers t (act.WRead v g)).reply
       (op.Line (act.WRead v g)) (wread-counts (op.Line (act.WRead v g)) (λ r. refl) (λ r. refl) (λ r. refl) (place t v.0) g.0)
-  line-counts t a = stays (op.Line a) says.Ok (record { makes = refl; gives = refl; takes = refl; none = refl })
+  line-counts t a = moved-counts (op.Line a) (λ r. refl) (λ r. refl) (λ r. refl) _ (heap_line-moved peer_name s.peers.heap t a)
+      (peer_line-plain s.peers (table_target s) t a)
 
   -- neither the peers nor the table change
   here : (o : Op) (r : Reply) → Says o r false false false → PeerCounts s s.peers s.table o r

@@ -47,9 +47,9 @@ module _ (reply : Reply) where
 
 pub reads_refused : AreReadsRefused
 reads_refused = record {
-  object = refused (says.M (object_no 1)) (λ a. cc) (λ w. elim w [ inl g ↦ cc | inr (inl p) ↦ (let e = p.replies in cc) | inr (inr l) ↦ (let e = l.replies in cc) ]);
-  unfilled_pin = refused (says.Pinned (object_no 1)) (λ a. cc) (λ w. elim w [ inl g ↦ cc | inr (inl p) ↦ (let e = p.pinned in cc) | inr (inr l) ↦ (let e = l.replies in cc) ]);
-  empty = refused says.Empty (λ a. cc) (λ w. elim w [ inl g ↦ cc | inr (inl p) ↦ (let e = p.replies in cc) | inr (inr l) ↦ (let e = l.replies in cc) ]);
+  object = refused (says.M (object_no 1)) (λ a. cc) (λ w. elim w [ inl g ↦ cc | inr (inl p) ↦ (let e = p.2 in cc) | inr (inr l) ↦ (let e = l.3 in cc) ]);
+  unfilled_pin = refused (says.Pinned (object_no 1)) (λ a. cc) (λ w. elim w [ inl g ↦ cc | inr (inl p) ↦ (let e = p.1 in cc) | inr (inr l) ↦ (let e = l.3 in cc) ]);
+  empty = refused says.Empty (λ a. cc) (λ w. elim w [ inl g ↦ cc | inr (inl p) ↦ (let e = p.2 in cc) | inr (inr l) ↦ (let e = l.3 in cc) ]);
   peer = λ f. let e = f 2 3 1 (weak_read (says.P (peer_no 1))) (swept (says.P (peer_no 1))) (omega arith) refl (reads_weakly (says.P (peer_no 1))) in cc;
   unset_name = λ f. let e = f 2 3 1 (weak_read says.Unset) (swept says.Unset) (omega arith) refl (reads_weakly says.Unset) in cc;
 }

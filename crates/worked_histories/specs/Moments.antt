@@ -6,11 +6,11 @@ use Rattle.joint_machine.specs.declared.events.Reply.TheVariants as says
 use Rattle.joint_machine.specs.Joined.{joint_since, answers_at, graph_at}
 use Rattle.joint_machine.specs.Joint.{Joint, Graph, opening}
 use Rattle.joint_machine.specs.Replaying.{AreUnreached}
-use Rattle.joint_machine.specs.Linked.{Linkage, opening_linkage, is_joint}
+use Rattle.joint_machine.specs.Linked.{Linkage, opening_linkage}
 use Rattle.joint_machine.specs.LinkedHistories.{joint_projection, IsLinkedBy}
 use Rattle.joint_machine.specs.Managed.{candidates_of}
 use Rattle.joint_machine.specs.Readers.{is_aside, entry_after}
-use Rattle.joint_machine.specs.Run.{Moment, IsRun}
+use Rattle.joint_machine.specs.Run.{Moment, IsRun, is_joint}
 use Rattle.joint_machine.specs.Told.{Noted}
 use Rattle.computed_histories.specs.Readings.{finished_of}
 

@@ -3,8 +3,7 @@ use Rattle.std.proofs.Common.{sym, ap, subst}
 use Rattle.std.specs.Prelude.{IfOk}
 use Rattle.joint_machine.specs.declared.lines.Act.{Act}
 use Rattle.joint_machine.specs.declared.events.Op.TheVariants as op
-use Rattle.joint_machine.specs.Heaps.{place}
-use Rattle.joint_machine.specs.Managed.{place_or_none}
+use Rattle.joint_machine.specs.Heaps.{place, place_or_none}
 use Rattle.joint_machine.specs.Run.{thread_number}
 use Rattle.row_heap.specs.Marks.{overwritten}
 use Rattle.peer_heap.specs.Marks.{MarksAfter, MarksWritten}
