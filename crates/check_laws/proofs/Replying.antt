@@ -28,13 +28,13 @@ module _ (s : Linkage) (c : Thread) (l : ℕ) (o : Op) (cites : Option ℕ) (i j
   Allowed reply d e z = CallerAllows s.control s.managed.managed s.peer.peers.issued d l e reply cites z
 
   refs : (d : Thread) (k : Cycle) (xs ys : List (End × End)) → IsEvent d (op.Mirror k) → Allowed r d (op.Mirror k) (references_of xs) → Allowed q d (op.Mirror k) (references_of ys) → xs ≡ ys
-  refs C k xs ys v w x = mirrors s.control.stand s.managed.managed s.peer.peers.issued k.0 cites xs ys w x
+  refs C k xs ys v w x = mirrors s.control.stand s.managed.managed s.peer.peers.issued k r q cites xs ys w x
   refs (M z) k xs ys v w x = absurd v
   refs (P z) k xs ys v w x = absurd v
 
   answers : (d : Thread) (k : Cycle) (x y : List Answer) (f g : List ℕ) → IsEvent d (op.Resolve k)
       → Allowed r d (op.Resolve k) (resolution_of x f) → Allowed q d (op.Resolve k) (resolution_of y g) → x ≡ y
-  answers C k x y f g v w z = resolves_alike s.control.stand k.0 cites x y f g w z
+  answers C k x y f g v w z = resolves_alike s.control.stand s.managed.managed s.peer.peers.issued k r q cites x y f g w z
   answers (M m) k x y f g v w z = absurd v
   answers (P m) k x y f g v w z = absurd v
 

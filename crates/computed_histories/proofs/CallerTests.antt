@@ -13,53 +13,32 @@ use Rattle.joint_machine.specs.declared.events.Reply.{Reply}
 use Rattle.joint_machine.specs.declared.events.Reply.TheVariants as says
 use Rattle.joint_machine.specs.Components.{mirror_edges}
 use Rattle.joint_machine.specs.Control.{Doing, free, made, lent, gripped, given, met, Stand, idle, snapped, contracted, weakening, marked, restoring, restored, Control, doing_at, carried_edges}
-use Rattle.joint_machine.specs.Control.{MayStart, MayAdopt, MayLand, MayMeet, MayRelease, ThreadAllows, IsCandidateHandle, IsAtRest, IsPhaseOf, MaySnap, MayContractNow, MayMirrorNow, MayWeakenNow}
-use Rattle.joint_machine.specs.Control.{MayBeginNow, MaySweepNow, MayRestoreNow, MayClearNow, MayResolveNow, MayAbandonNow, MayRefuseNow, DriverAllows, CallerAllows, IsDone}
+use Rattle.joint_machine.specs.Control.{ThreadAllows, IsCandidateHandle, IsAtRest, IsPhaseOf, DriverAllows, CallerAllows, IsDone}
 use Rattle.joint_machine.specs.Managed.{Managed, handle_of, candidates_of}
 use Rattle.joint_machine.specs.Peers.{Issued}
 use Rattle.joint_machine.specs.Told.{Told, references_of, resolution_of, phase_of}
 use Rattle.computed_histories.specs.Lists.{same_number}
 use Rattle.computed_histories.specs.Markings.{ends_eq}
 use Rattle.computed_histories.specs.Replies.{same_answer}
-use Rattle.computed_histories.specs.Callers.{may_start, may_adopt, may_land, may_meet, may_release, thread_allows, is_candidate_handle, is_at_rest, is_phase_of, may_snap, may_contract_now}
-use Rattle.computed_histories.specs.Callers.{may_mirror_now, may_weaken_now, may_begin_now, may_sweep_now, may_restore_now, may_clear_now, may_resolve_now, may_abandon_now, may_refuse_now}
-use Rattle.computed_histories.specs.Callers.{driver_allows, caller_allows, is_done}
+use Rattle.computed_histories.specs.Callers.{thread_allows, is_candidate_handle, is_at_rest, is_phase_of, driver_allows, caller_allows, is_done}
 use Rattle.computed_histories.proofs.Telling.{Tells, always, never, like, and2, and3, and4, and5, and6, or2, same, same_numbers, same_lists, empty, that, is_false}
 use Rattle.computed_histories.proofs.LineTests.{tells_line}
 use Rattle.computed_histories.proofs.MarkingTests.{both_ends}
 use Rattle.computed_histories.proofs.ReplyTests.{sorts, answers, phases}
 
-starts : (d : Doing) (cites : Option ℕ) → Tells (may_start d cites) (MayStart d cites)
-starts (given n line h) cites = never (λ z. z)
-starts (met n line h) cites = never (λ z. z)
-starts free cites = empty cites
-starts (made n line p h sort f) cites = empty cites
-starts (lent n line h x) cites = empty cites
-starts (gripped n line p h sort f) cites = empty cites
-
-adopts : (d : Doing) (t : Thread) (l : ℕ) (o : Op) (cites : Option ℕ) → Tells (may_adopt d t l o cites) (MayAdopt d t l o cites)
-adopts (made n line p h sort f) t l (op.Adopt v kind k p' h') cites = and5 (same_numbers cites (Some n)) (same l line) (same p'.0 p) (same h'.0 h) (tells_line t (act.Bridge v kind k sort f))
-adopts _ t l o cites = never (λ z. z)
-
-lands : (d : Doing) (l : ℕ) (o : Op) (cites : Option ℕ) → Tells (may_land d l o cites) (MayLand d l o cites)
-lands (lent n line h x) l (op.Land h' x') cites = and4 (same_numbers cites (Some n)) (same l line) (same h'.0 h) (same x'.0 x)
-lands _ l o cites = never (λ z. z)
-
-meets : (d : Doing) (l : ℕ) (o : Op) (cites : Option ℕ) → Tells (may_meet d l o cites) (MayMeet d l o cites)
-meets (gripped n line p h sort f) l (op.Meet v sort' f' p' h') cites = and6 (same_numbers cites (Some n)) (same l line) (same p'.0 p) (same h'.0 h) (sorts sort' sort) (same f' f)
-meets _ l o cites = never (λ z. z)
-
-releases : (d : Doing) (l h' : ℕ) (cites : Option ℕ) → Tells (may_release d l h' cites) (MayRelease d l h' cites)
-releases (given n line h) l h' cites = and3 (same_numbers cites (Some n)) (same l line) (same h' h)
-releases (met n line h) l h' cites = and3 (same_numbers cites (Some n)) (same l line) (same h' h)
-releases _ l h' cites = never (λ z. z)
-
 pub thread : (d : Doing) (t : Thread) (l : ℕ) (o : Op) (cites : Option ℕ) → Tells (thread_allows d t l o cites) (ThreadAllows d t l o cites)
-thread d t l (op.Adopt v kind k p h) cites = adopts d t l (op.Adopt v kind k p h) cites
-thread d t l (op.Land h x) cites = lands d l (op.Land h x) cites
-thread d t l (op.Meet v sort f p h) cites = meets d l (op.Meet v sort f p h) cites
-thread d t l (op.Release h) cites = releases d l h.0 cites
-thread d t l _ cites = starts d cites
+thread (made n line p h sort f) t l (op.Adopt v kind k p' h') cites = and5 (same_numbers cites (Some n)) (same l line) (same p'.0 p) (same h'.0 h) (tells_line t (act.Bridge v kind k sort f))
+thread (lent n line h x) t l (op.Land h' x') cites = and4 (same_numbers cites (Some n)) (same l line) (same h'.0 h) (same x'.0 x)
+thread (gripped n line p h sort f) t l (op.Meet v sort' f' p' h') cites = and6 (same_numbers cites (Some n)) (same l line) (same p'.0 p) (same h'.0 h) (sorts sort' sort) (same f' f)
+thread (given n line h) t l (op.Release h') cites = and3 (same_numbers cites (Some n)) (same l line) (same h'.0 h)
+thread (met n line h) t l (op.Release h') cites = and3 (same_numbers cites (Some n)) (same l line) (same h'.0 h)
+thread (given n line h) t l o cites = never (λ z. z)
+thread (met n line h) t l o cites = never (λ z. z)
+thread d t l (op.Adopt v kind k p h) cites = never (λ z. z)
+thread d t l (op.Land h x) cites = never (λ z. z)
+thread d t l (op.Meet v sort f p h) cites = never (λ z. z)
+thread d t l (op.Release h) cites = never (λ z. z)
+thread d t l _ cites = empty cites
 
 candidate_handle : (s : Managed) (i h : ℕ) → Tells (is_candidate_handle s i h) (IsCandidateHandle s i h)
 candidate_handle s i h = that (slice_get (candidates_of s) i) (λ m. same_number (handle_of s m) (Some h)) (λ m. handle_of s m ≡ Some h) (λ m. same_numbers (handle_of s m) (Some h))
@@ -78,67 +57,23 @@ phase (marked o) c p = phases p at.Marked
 phase (restoring o said) c p = and2 (same_lists same_answer answers said []) (phases p at.Swept)
 phase (restored o said clear) c p = phases p at.Restored
 
-pub snaps : (d : Stand) (cites : Option ℕ) → Tells (may_snap d cites) (MaySnap d cites)
-snaps idle cites = empty cites
-snaps _ cites = never (λ z. z)
-
-contracts : (d : Stand) (k : ℕ) (cites : Option ℕ) → Tells (may_contract_now d k cites) (MayContractNow d k cites)
-contracts (snapped o) k cites = and2 (same o.cycle k) (empty cites)
-contracts _ k cites = never (λ z. z)
-
-mirrors : (d : Stand) (s : Managed) (issued : List Issued) (k : ℕ) (cites : Option ℕ) (told : Told) → Tells (may_mirror_now d s issued k cites told) (MayMirrorNow d s issued k cites told)
-mirrors (contracted o comps heavy xrefs) s issued k cites (references_of refs) = and3 (same o.cycle k)
-    (same_numbers cites (Some o.snap)) (same_lists ends_eq both_ends refs (carried_edges s issued (mirror_edges comps xrefs)))
-mirrors _ s issued k cites told = never (λ z. z)
-
-weakens : (d : Stand) (s : Managed) (h : ℕ) (cites : Option ℕ) → Tells (may_weaken_now d s h cites) (MayWeakenNow d s h cites)
-weakens (weakening o count weakened swept) s h cites = and3 (same_numbers cites (Some o.snap)) (is_false swept) (candidate_handle s count h)
-weakens _ s h cites = never (λ z. z)
-
-begins : (d : Stand) (c : ℕ) (reply : Reply) (cites : Option ℕ) → Tells (may_begin_now d c reply cites) (MayBeginNow d c reply cites)
-begins (weakening o count weakened swept) c (says.Mark j) cites = and2 (same count c) (empty cites)
-begins _ c reply cites = never (λ z. z)
-
-sweeps : (d : Stand) (c : ℕ) (cites : Option ℕ) → Tells (may_sweep_now d c cites) (MaySweepNow d c cites)
-sweeps (weakening o count weakened swept) c cites = and3 (same count c) (is_false swept) (empty cites)
-sweeps (marked o) c cites = empty cites
-sweeps _ c cites = never (λ z. z)
-
-restores : (d : Stand) (s : Managed) (h : ℕ) (cites : Option ℕ) → Tells (may_restore_now d s h cites) (MayRestoreNow d s h cites)
-restores (restoring o said) s h cites = and2 (empty cites) (candidate_handle s (length said) h)
-restores _ s h cites = never (λ z. z)
-
-clears : (d : Stand) (c k : ℕ) (cites : Option ℕ) → Tells (may_clear_now d c k cites) (MayClearNow d c k cites)
-clears (restoring o said) c k cites = and3 (empty cites) (same (length said) c) (same o.cycle k)
-clears _ c k cites = never (λ z. z)
-
-resolves : (d : Stand) (k : ℕ) (cites : Option ℕ) (told : Told) → Tells (may_resolve_now d k cites told) (MayResolveNow d k cites told)
-resolves (restored o said clear) k cites (resolution_of told freed) = and3 (same o.cycle k) (same_numbers cites (Some clear)) (same_lists same_answer answers told said)
-resolves _ k cites told = never (λ z. z)
-
-pub abandons : (d : Stand) (k : ℕ) (cites : Option ℕ) → Tells (may_abandon_now d k cites) (MayAbandonNow d k cites)
-abandons (snapped o) k cites = and2 (same o.cycle k) (empty cites)
-abandons (contracted o comps heavy xrefs) k cites = and2 (same o.cycle k) (empty cites)
-abandons _ k cites = never (λ z. z)
-
-refuses : (d : Stand) (c : ℕ) (cites : Option ℕ) (told : Told) → Tells (may_refuse_now d c cites told) (MayRefuseNow d c cites told)
-refuses d c cites (phase_of p) = and2 (phase d c p) (empty cites)
-refuses d c cites _ = never (λ z. z)
-
 driver : (d : Stand) (s : Managed) (issued : List Issued) (o : Op) (reply : Reply) (cites : Option ℕ) (told : Told)
     → Tells (driver_allows d s issued o reply cites told) (DriverAllows d s issued o reply cites told)
 driver d s issued (op.Line a) reply cites told = and2 (at_rest d (length (candidates_of s))) (empty cites)
-driver d s issued (op.Snap k) reply cites told = snaps d cites
-driver d s issued (op.Contract k) reply cites told = contracts d k.0 cites
-driver d s issued (op.Mirror k) reply cites told = mirrors d s issued k.0 cites told
-driver d s issued (op.Weaken h) reply cites told = weakens d s h.0 cites
-driver d s issued op.Begin reply cites told = begins d (length (candidates_of s)) reply cites
-driver d s issued op.Sweep reply cites told = sweeps d (length (candidates_of s)) cites
-driver d s issued (op.Restore h) reply cites told = restores d s h.0 cites
-driver d s issued (op.Clear k) reply cites told = clears d (length (candidates_of s)) k.0 cites
-driver d s issued (op.Resolve k) reply cites told = resolves d k.0 cites told
-driver d s issued (op.Abandon k) reply cites told = abandons d k.0 cites
-driver d s issued (op.Refused w) reply cites told = refuses d (length (candidates_of s)) cites told
+driver idle s issued (op.Snap k) reply cites told = empty cites
+driver (snapped o) s issued (op.Contract k) reply cites told = and2 (same o.cycle k.0) (empty cites)
+driver (contracted o comps heavy xrefs) s issued (op.Mirror k) reply cites (references_of refs) = and3 (same o.cycle k.0)
+    (same_numbers cites (Some o.snap)) (same_lists ends_eq both_ends refs (carried_edges s issued (mirror_edges comps xrefs)))
+driver (weakening o count weakened swept) s issued (op.Weaken h) reply cites told = and3 (same_numbers cites (Some o.snap)) (is_false swept) (candidate_handle s count h.0)
+driver (weakening o count weakened swept) s issued op.Begin (says.Mark j) cites told = and2 (same count (length (candidates_of s))) (empty cites)
+driver (weakening o count weakened swept) s issued op.Sweep reply cites told = and3 (same count (length (candidates_of s))) (is_false swept) (empty cites)
+driver (marked o) s issued op.Sweep reply cites told = empty cites
+driver (restoring o said) s issued (op.Restore h) reply cites told = and2 (empty cites) (candidate_handle s (length said) h.0)
+driver (restoring o said) s issued (op.Clear k) reply cites told = and3 (empty cites) (same (length said) (length (candidates_of s))) (same o.cycle k.0)
+driver (restored o said clear) s issued (op.Resolve k) reply cites (resolution_of told freed) = and3 (same o.cycle k.0) (same_numbers cites (Some clear)) (same_lists same_answer answers told said)
+driver (snapped o) s issued (op.Abandon k) reply cites told = and2 (same o.cycle k.0) (empty cites)
+driver (contracted o comps heavy xrefs) s issued (op.Abandon k) reply cites told = and2 (same o.cycle k.0) (empty cites)
+driver d s issued (op.Refused w) reply cites (phase_of p) = and2 (phase d (length (candidates_of s)) p) (empty cites)
 driver d s issued _ reply cites told = never (λ z. z)
 
 pub caller : (s : Control) (managed : Managed) (issued : List Issued) (t : Thread) (line : ℕ) (o : Op) (reply : Reply) (cites : Option ℕ) (told : Told)

@@ -69,7 +69,7 @@ module _ (s : Linkage) (k : LinkageInvariant s) (names : NamesInvariant s.peer.p
   released t l (op.Release g) m told e w h q = subst (λ (z : HNum). HasStrength s.peer z.0 strong) (let p : g ≡ h = cc in p) (at t e w)
     where
       at : (t : Thread) → IsEvent t (op.Release g) → CallerAllows s.control s.managed.managed s.peer.peers.issued t l (op.Release g) m.reply m.cites told → HasStrength s.peer g.0 strong
-      at (M u) e w = in-hand s k u g.0 (release-hand (doing_at s.control u) l g.0 m.cites w)
+      at (M u) e w = in-hand s k u g.0 (release-hand (doing_at s.control u) (M u) l g m.cites w)
       at (P u) e w = absurd e
       at C e w = absurd e
   released t l o m told e w h q = (let f : ⊥ = cc in absurd f)
@@ -79,7 +79,7 @@ module _ (s : Linkage) (k : LinkageInvariant s) (names : NamesInvariant s.peer.p
   restored t l (op.Restore g) m told e w h q = subst (λ (z : HNum). HasStrength s.peer z.0 weak) (let p : g ≡ h = cc in p) (at t e w)
     where
       at : (t : Thread) → IsEvent t (op.Restore g) → CallerAllows s.control s.managed.managed s.peer.peers.issued t l (op.Restore g) m.reply m.cites told → HasStrength s.peer g.0 weak
-      at C e w = waiting s k s.control.stand g.0 m.cites k.driver w
+      at C e w = waiting s k s.control.stand g m.reply m.cites told k.driver w
       at (M u) e w = absurd e
       at (P u) e w = absurd e
   restored t l o m told e w h q = (let f : ⊥ = cc in absurd f)

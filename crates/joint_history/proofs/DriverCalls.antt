@@ -17,12 +17,13 @@ use Rattle.joint_machine.specs.declared.events.Entry.{Entry}
 use Rattle.joint_machine.specs.declared.events.Op.TheVariants as op
 use Rattle.joint_machine.specs.declared.events.Reply.{Reply}
 use Rattle.joint_machine.specs.declared.events.Reply.TheVariants as says
-use Rattle.joint_machine.specs.Control.{OpenSnap, Stand, idle, snapped, contracted, weakening, marked, restoring, restored, IsPhaseOf, IsAtRest, MayAbandonNow, seen_weakened, stand_after}
+use Rattle.joint_machine.specs.Control.{OpenSnap, Stand, idle, snapped, contracted, weakening, marked, restoring, restored, IsPhaseOf, IsAtRest, DriverAllows, seen_weakened, stand_after}
 use Rattle.joint_machine.specs.Cycles.{IsOpen}
 use Rattle.joint_machine.specs.Linked.{Linkage}
 use Rattle.joint_model.specs.Listed.{answer_of, answers_of}
 use Rattle.joint_machine.specs.Managed.{Managed, OpenCycle, candidates_of}
 use Rattle.joint_machine.specs.ManagedReplay.{AreNew, ManagedReplay, MayContract, MayRefuse, managed_answer, open_reply, refusal_to}
+use Rattle.joint_machine.specs.Peers.{Issued}
 use Rattle.joint_machine.specs.Run.{thread_number}
 use Rattle.joint_machine.specs.Sides.{Side, managed_rules}
 use Rattle.joint_machine.specs.Told.{Told, nothing, contraction_of, handles_given, resolution_of, phase_of}
@@ -136,14 +137,15 @@ abandon_open u k (marked p) o e i = absurd i
 abandon_open u k (restoring p answers) o e i = absurd i
 abandon_open u k (restored p answers clear) o e i = absurd i
 
-abandon_allowed : (stand : Stand) (o : OpenSnap) → IsUnmirrored stand o → MayAbandonNow stand o.cycle None
-abandon_allowed (snapped p) o i = (ap (λ (z : OpenSnap). z.cycle) i, refl)
-abandon_allowed (contracted p comps heavy pairs) o i = (ap (λ (z : OpenSnap). z.cycle) i, refl)
-abandon_allowed idle o i = absurd i
-abandon_allowed (weakening p count weakened swept) o i = absurd i
-abandon_allowed (marked p) o i = absurd i
-abandon_allowed (restoring p answers) o i = absurd i
-abandon_allowed (restored p answers clear) o i = absurd i
+abandon_allowed : (stand : Stand) (m : Managed) (issued : List Issued) (o : OpenSnap) → IsUnmirrored stand o
+    → DriverAllows stand m issued (op.Abandon record { 0 = o.cycle }) says.Ok None nothing
+abandon_allowed (snapped p) m issued o i = (ap (λ (z : OpenSnap). z.cycle) i, refl)
+abandon_allowed (contracted p comps heavy pairs) m issued o i = (ap (λ (z : OpenSnap). z.cycle) i, refl)
+abandon_allowed idle m issued o i = absurd i
+abandon_allowed (weakening p count weakened swept) m issued o i = absurd i
+abandon_allowed (marked p) m issued o i = absurd i
+abandon_allowed (restoring p answers) m issued o i = absurd i
+abandon_allowed (restored p answers clear) m issued o i = absurd i
 
 abandon_idle : (stand : Stand) (o : OpenSnap) (n : ℕ) (k : Cycle) (reply : Reply) (told : Told) → IsUnmirrored stand o → stand_after stand n (op.Abandon k) reply told ≡ idle
 abandon_idle (snapped p) o n k reply told i = refl
@@ -292,7 +294,8 @@ module _ (locked mine mine1 locked2 mine2 : View) (order : OrderId) (seat seat' 
       let same = one_cycle old.state.managed o.cycle d.cycle open_here.0 d.opened open_here.1 in
       let drew = subst (λ (k : ℕ). Drew managed_rules 0 order seat seat' old new (driver_entry n index (op.Abandon record { 0 = k }) says.Ok None) nothing) same d.drew in
       driven locked mine mine1 locked2 mine2 order seat seat' old new index stand seen
-      (driver_entry n index (op.Abandon record { 0 = o.cycle }) says.Ok None) nothing pass owns refl refl short ks s (λ issued. abandon_allowed stand o i) (none_stand old.state.managed) l drew b
+      (driver_entry n index (op.Abandon record { 0 = o.cycle }) says.Ok None) nothing pass owns refl refl short ks s
+      (λ issued. abandon_allowed stand old.state.managed issued o i) (none_stand old.state.managed) l drew b
 
   pub abandoning_made : (n : ℕ) → DrawsAbandon order seat seat' old new index n → MakesAbandon mine mine2 index n
   abandoning_made n d o stand seen s i =

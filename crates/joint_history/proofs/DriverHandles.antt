@@ -6,8 +6,9 @@ use Rattle.joint_machine.specs.declared.names.Cycle.{Cycle}
 use Rattle.joint_machine.specs.declared.names.HNum.{HNum}
 use Rattle.joint_machine.specs.declared.names.Thread.TheVariants.{C}
 use Rattle.joint_machine.specs.declared.events.Op.TheVariants as op
+use Rattle.joint_machine.specs.declared.events.Reply.{Reply}
 use Rattle.joint_machine.specs.declared.events.Reply.TheVariants as says
-use Rattle.joint_machine.specs.Control.{OpenSnap, weakening, restoring, IsCandidateHandle, MayClearNow, MayRestoreNow, MayWeakenNow}
+use Rattle.joint_machine.specs.Control.{OpenSnap, weakening, restoring, IsCandidateHandle, DriverAllows}
 use Rattle.joint_machine.specs.Managed.{Managed, candidates_of}
 use Rattle.joint_machine.specs.PeerReplay.{PeerReplay, MayClear, MayRestore, MayWeaken}
 use Rattle.joint_machine.specs.Sides.{Side, peer_rules}
@@ -34,7 +35,8 @@ may_weaken side o count snap h weakened seen u cand same = subst (λ (n : ℕ). 
     (next_may_be_weakened u.state u.kept o count h weakened false u.stood (candidate_handle_on seen u.state.managed.managed u.dead u.kept.kept.managed.managed count h cand)))
 
 weaken_allowed : (side : PeerReplay) (o : OpenSnap) (count snap h : ℕ) (weakened : Bool) (seen : Managed) (u : IsUnderPeers side (weakening o count weakened false) seen)
-    → IsCandidateHandle seen count h → o.snap ≡ snap → MayWeakenNow (weakening o count weakened false) u.state.managed.managed h (Some snap)
+    → IsCandidateHandle seen count h → o.snap ≡ snap
+    → DriverAllows (weakening o count weakened false) u.state.managed.managed u.state.peer.peers.issued (op.Weaken record { 0 = h }) says.Ok (Some snap) nothing
 weaken_allowed side o count snap h weakened seen u cand same = (ap Some (sym same), refl, candidate_handle_on seen u.state.managed.managed u.dead u.kept.kept.managed.managed count h cand)
 
 -- `restore`
@@ -46,9 +48,10 @@ pub may_restore : (side : PeerReplay) (o : OpenSnap) (answers : List Answer) (h 
     → IsUnderPeers side (restoring o answers) seen → IsCandidateHandle seen (length answers) h → MayRestore side h
 may_restore side o answers h seen u cand = subst (λ (s : PeerReplay). MayRestore s h) u.peer (next_may_be_restored u.state u.kept o answers h u.stood (candidate_here side o answers h seen u cand))
 
-restore_allowed : (side : PeerReplay) (o : OpenSnap) (answers : List Answer) (h : ℕ) (seen : Managed) (u : IsUnderPeers side (restoring o answers) seen)
-    → IsCandidateHandle seen (length answers) h → MayRestoreNow (restoring o answers) u.state.managed.managed h None
-restore_allowed side o answers h seen u cand = (refl, candidate_here side o answers h seen u cand)
+restore_allowed : (side : PeerReplay) (o : OpenSnap) (answers : List Answer) (h : ℕ) (reply : Reply) (seen : Managed) (u : IsUnderPeers side (restoring o answers) seen)
+    → IsCandidateHandle seen (length answers) h
+    → DriverAllows (restoring o answers) u.state.managed.managed u.state.peer.peers.issued (op.Restore record { 0 = h }) reply None nothing
+restore_allowed side o answers h reply seen u cand = (refl, candidate_here side o answers h seen u cand)
 
 -- `clear`
 pub may_clear : (side : PeerReplay) (o : OpenSnap) (answers : List Answer) (k : ℕ) (seen : Managed)
@@ -57,7 +60,8 @@ may_clear side o answers k seen u all same = subst (MayClear side) same (subst (
     (all_may_be_cleared u.state u.kept o answers u.stood (all ∙ count_same seen u.state.managed.managed u.dead)))
 
 clear_allowed : (side : PeerReplay) (o : OpenSnap) (answers : List Answer) (k : ℕ) (seen : Managed) (u : IsUnderPeers side (restoring o answers) seen)
-    → length answers ≡ length (candidates_of seen) → o.cycle ≡ k → MayClearNow (restoring o answers) (length (candidates_of u.state.managed.managed)) k None
+    → length answers ≡ length (candidates_of seen) → o.cycle ≡ k
+    → DriverAllows (restoring o answers) u.state.managed.managed u.state.peer.peers.issued (op.Clear record { 0 = k }) says.Ok None nothing
 clear_allowed side o answers k seen u all same = (refl, all ∙ count_same seen u.state.managed.managed u.dead, same)
 
 pub targets_restored : (side : PeerReplay) (o : OpenSnap) (answers : List Answer) (seen : Managed)
@@ -91,7 +95,7 @@ module _ (locked mine mine1 locked2 mine2 : View) (order : OrderId) (seat seat' 
   with_restore n h back d o answers m s cand =
       driven_peers locked mine mine1 locked2 mine2 order seat seat' old new index (restoring o answers) m
       (driver_entry n index (op.Restore h) (reply_of back) None) nothing pass owns refl refl short ks s
-      (λ u. restore_allowed old.state o answers h.0 m u cand) l d b
+      (λ u. restore_allowed old.state o answers h.0 (reply_of back) m u cand) l d b
 
   pub restore_made : (n : ℕ) (h : HNum) (back : Back) → Drew peer_rules 1 order seat seat' old new (driver_entry n index (op.Restore h) (reply_of back) None) nothing
       → MakesRestore mine mine2 index h back n

@@ -1,6 +1,6 @@
 -- The driver's marking under the peer lock: after its sweep no marking is open, so its begin gives a number; and in its
 -- marked phase its own is open, whatever slices it has made.
-use Rattle.std.proofs.Common.{◌≡◌, inl, ℕ, ◌<◌, ◌^◌, Bool, true, false, List, length, Option, Some, None, refl, sym, ap, ◌∙◌, subst}
+use Rattle.std.proofs.Common.{◌≡◌, inl, ℕ, ◌<◌, ◌^◌, Bool, true, false, List, [], length, Option, Some, None, refl, sym, ap, ◌∙◌, subst}
 use base.Growing.{prefix_refl}
 use Rattle.std.specs.Prelude.{IsSome}
 use Rattle.joint_machine.specs.declared.names.Marking.{Marking as Number}
@@ -11,9 +11,10 @@ use Rattle.joint_machine.specs.declared.events.Entry.{Entry}
 use Rattle.joint_machine.specs.declared.events.Op.TheVariants as op
 use Rattle.joint_machine.specs.declared.events.Reply.{Reply}
 use Rattle.joint_machine.specs.declared.events.Reply.TheVariants as says
-use Rattle.joint_machine.specs.Control.{OpenSnap, Stand, idle, snapped, contracted, weakening, marked, restoring, restored, MaySweepNow, stand_after}
+use Rattle.joint_machine.specs.Control.{OpenSnap, Stand, idle, snapped, contracted, weakening, marked, restoring, restored, DriverAllows, stand_after}
 use Rattle.joint_machine.specs.Managed.{Managed, candidates_of}
 use Rattle.joint_machine.specs.PeerReplay.{PeerReplay, Marking, swept}
+use Rattle.joint_machine.specs.Peers.{Issued}
 use Rattle.joint_machine.specs.Sides.{Side, peer_rules}
 use Rattle.joint_machine.specs.Told.{Told, nothing, sweep_of}
 use Rattle.known_laws.proofs.Conditions.{marked_is_the_drivers, sweep_leaves_none}
@@ -138,15 +139,23 @@ pub record MayBeginMarking (v : View) (index : ℕ) : Type 0 where
   pub stands : DriverStands v index (weakening opened count weakened swept) seen
   pub all : count ≡ length (candidates_of seen)
 
+-- a sweep comes by where the driver stands and the count of its candidates alone
+sweep_on : (stand : Stand) (m n : Managed) (i j : List Issued) (r : Reply) (x y : Told) → length (candidates_of m) ≡ length (candidates_of n)
+    → DriverAllows stand m i op.Sweep r None x → DriverAllows stand n j op.Sweep r None y
+sweep_on (weakening o count weakened swept) m n i j r x y e w = (w.0 ∙ e, w.1, w.2)
+sweep_on (marked o) m n i j r x y e w = w
+sweep_on stand m n i j r x y e w = absurd w
+
 module _ (locked mine mine1 locked2 mine2 : View) (order : OrderId) (seat seat' : Shown) (old new : PeerModel) (index : ℕ) (pass : HoldsPass C mine) (owns : Owns locked 1)
     (short : index < 2 ^ 32) (ks : PeerKnows locked (seen old)) (rs : PeerReserves locked old) (l : Lends C locked mine seat.view mine1) (b : Returns C seat'.view mine1 locked2 mine2) where
   with_sweep : (n : ℕ) (out : Swept) (d : DrawsSweep order seat seat' (seen old) (seen new) index n out) (stand : Stand) (m : Managed)
-      → DriverStands mine index stand m → MaySweepNow stand (length (candidates_of m)) None
+      → DriverStands mine index stand m → DriverAllows stand m [] op.Sweep (says.Swept out.marking out.freed) None nothing
       → DrivenUnderPeers mine locked2 mine2 (seen old) (seen new) index stand m (driver_entry n index op.Sweep (says.Swept out.marking out.freed) None) (sweep_of d.freed)
   with_sweep n out d stand m s now =
       driven_peers locked mine mine1 locked2 mine2 order seat seat' (seen old) (seen new) index stand m
       (driver_entry n index op.Sweep (says.Swept out.marking out.freed) None) (sweep_of d.freed) pass owns refl refl short ks s
-      (λ u. subst (λ (c : ℕ). MaySweepNow stand c None) (count_same m u.state.managed.managed u.dead) now) l d.drew b
+      (λ u. sweep_on stand m u.state.managed.managed [] u.state.peer.peers.issued (says.Swept out.marking out.freed) nothing (sweep_of d.freed)
+      (count_same m u.state.managed.managed u.dead) now) l d.drew b
 
   sweep_made : (n : ℕ) (out : Swept) → DrawsSweep order seat seat' (seen old) (seen new) index n out → MakesSweep mine mine2 index n out
   sweep_made n out d stand m s now =
@@ -159,7 +168,8 @@ module _ (locked mine mine1 locked2 mine2 : View) (order : OrderId) (seat seat' 
       }
 
   -- the sweep, from wherever the driver may make it
-  pub swept_under : (n : ℕ) (out : Swept) (stand : Stand) (m : Managed) → DriverStands mine index stand m → MaySweepNow stand (length (candidates_of m)) None
+  pub swept_under : (n : ℕ) (out : Swept) (stand : Stand) (m : Managed) → DriverStands mine index stand m
+      → DriverAllows stand m [] op.Sweep (says.Swept out.marking out.freed) None nothing
       → DrawsSweep order seat seat' (seen old) (seen new) index n out → new.reserve ≡ old.reserve → LeavesUnder locked2 new (MakesSweep mine mine2 index n out)
   swept_under n out stand m s now d same =
       let e : Entry = driver_entry n index op.Sweep (says.Swept out.marking out.freed) None in

@@ -7,7 +7,7 @@ use Rattle.joint_machine.specs.declared.names.Thread.TheVariants.{C}
 use Rattle.joint_machine.specs.declared.events.Op.TheVariants as op
 use Rattle.joint_machine.specs.declared.events.Reply.TheVariants as says
 use Rattle.joint_machine.specs.Components.{mirror_edges}
-use Rattle.joint_machine.specs.Control.{OpenSnap, Stand, contracted, carried_edges, MayMirrorNow, DriverAllows}
+use Rattle.joint_machine.specs.Control.{OpenSnap, Stand, contracted, carried_edges, DriverAllows}
 use Rattle.joint_machine.specs.Cycles.{IsDeadContraction}
 use Rattle.joint_machine.specs.Linked.{Linkage}
 use Rattle.joint_machine.specs.Managed.{Managed, candidates_of}
@@ -80,10 +80,10 @@ module _ (side : PeerReplay) (o : OpenSnap) (comps : List (List ℕ)) (heavy : L
       ∙ (ap (λ (cs : List (List ℕ)). carried_edges t issued (mirror_edges cs l.pairs)) (sym w.comps_same)
       ∙ ap (λ (ps : List (ℕ × ℕ)). carried_edges t issued (mirror_edges comps ps)) (sym w.pairs_same)))
 
-  mirror_allowed : IsListing l.comps l.heavy l.pairs → (k snap : ℕ) → o.cycle ≡ k → o.snap ≡ snap
-      → MayMirrorNow (contracted o comps heavy pairs) u.state.managed.managed u.state.peer.peers.issued k
+  mirror_allowed : IsListing l.comps l.heavy l.pairs → (k : Cycle) (refs snap : ℕ) → o.cycle ≡ k.0 → o.snap ≡ snap
+      → DriverAllows (contracted o comps heavy pairs) u.state.managed.managed u.state.peer.peers.issued (op.Mirror k) (says.Refs refs)
       (Some snap) (references_of (carried_to_peers side.peers.issued g.nodes (mirror_edges l.comps l.pairs)))
-  mirror_allowed listing k snap same_cycle same_snap = (same_cycle, ap Some (sym same_snap), carried listing)
+  mirror_allowed listing k refs snap same_cycle same_snap = (same_cycle, ap Some (sym same_snap), carried listing)
 
 -- there is one handle for each candidate
 few : (s : Linkage) (m : Managed) (g : Part) (l : Listing) (comps : List (List ℕ)) (heavy : List ℕ) (pairs : List (ℕ × ℕ)) → PastInvariant s
@@ -111,7 +111,7 @@ module _ (locked mine mine1 locked2 mine2 : View) (order : OrderId) (seat seat' 
   with_mirror n refs d o comps heavy pairs m s w same_cycle same_snap =
       driven_peers locked mine mine1 locked2 mine2 order seat seat' (seen old) (seen new) index (contracted o comps heavy pairs) m (driver_entry n index (op.Mirror k) (says.Refs refs) (Some snap))
       (references_of (carried_to_peers old.state.peers.issued g.nodes (mirror_edges l.comps l.pairs))) pass owns refl refl short ks s
-      (λ u. mirror_allowed old.state o comps heavy pairs m g l u w listing k.0 snap same_cycle same_snap) lends d.drew b
+      (λ u. mirror_allowed old.state o comps heavy pairs m g l u w listing k refs snap same_cycle same_snap) lends d.drew b
 
   mirror_made : (n refs : ℕ) → DrawsMirror order seat seat' (seen old) (seen new) index k snap g l n refs → MakesMirror mine mine2 index k snap g l refs n
   mirror_made n refs d o comps heavy pairs m s w same_cycle same_snap =
@@ -119,7 +119,7 @@ module _ (locked mine mine1 locked2 mine2 : View) (order : OrderId) (seat seat' 
       let told = carried_to_peers old.state.peers.issued g.nodes (mirror_edges l.comps l.pairs) in
       let makes : DriverMakes mine mine2 (contracted o comps heavy pairs) m (driver_entry n index (op.Mirror k) (says.Refs refs) (Some o.snap)) (references_of told) = subst
       (λ (x : ℕ). DriverMakes mine mine2 (contracted o comps heavy pairs) m (driver_entry n index (op.Mirror k) (says.Refs refs) (Some x)) (references_of told)) (sym same_snap) v.makes in
-      let now : MayMirrorNow (contracted o comps heavy pairs) makes.state.managed.managed makes.state.peer.peers.issued k.0 (Some o.snap) (references_of told) =
+      let now : DriverAllows (contracted o comps heavy pairs) makes.state.managed.managed makes.state.peer.peers.issued (op.Mirror k) (says.Refs refs) (Some o.snap) (references_of told) =
       subst (λ (x : Stand). DriverAllows x makes.state.managed.managed makes.state.peer.peers.issued (op.Mirror k) (says.Refs refs) (Some o.snap) (references_of told)) makes.stood
       (turn_same makes.state.managed.managed.pins makes.state.control (given makes.state (references_of told)).managed.managed makes.state.peer.peers.issued C index
       (op.Mirror k) (says.Refs refs) (Some o.snap) (references_of told) makes.comes.comes.order) in

@@ -17,10 +17,11 @@ use Rattle.joint_machine.specs.declared.events.Op.{Op}
 use Rattle.joint_machine.specs.declared.events.Op.TheVariants as op
 use Rattle.joint_machine.specs.declared.events.Reply.{Reply}
 use Rattle.joint_machine.specs.declared.events.Reply.TheVariants as says
-use Rattle.joint_machine.specs.Control.{Doing, MayAdopt, MayMeet, ThreadAllows, made, gripped}
+use Rattle.joint_machine.specs.Control.{Doing, ThreadAllows, made, gripped}
 use Rattle.joint_machine.specs.Draws.{numbered}
 use Rattle.joint_machine.specs.Lines.{IsDriver, IsManagedThread, IsPeerThread, is_peer_event, is_peer_thread, is_read}
 use Rattle.joint_machine.specs.Sides.{TakesManaged, TakesPeer, managed_rules}
+use Rattle.known_laws.proofs.Citing.{thread-none}
 use Rattle.managed_heap.specs.Sides.{ManagedModel, as_side}
 use Rattle.managed_heap.specs.Steps.{CitesRightly, IsFresh, IsManagedStep, IsStepBy}
 use Rattle.order_table.specs.declared.views.View.{View}
@@ -37,7 +38,7 @@ use Rattle.joint_history.proofs.Fitting.{either_further, goes_further, lent_mana
 use Rattle.joint_history.proofs.Fresh.{turn_is_fresh_for}
 use Rattle.joint_history.proofs.LockedSteps.{DrawsTold, StandsTold, called, managed_side, peer_side}
 use Rattle.joint_history.proofs.Reserving.{step_reserves}
-use Rattle.joint_history.proofs.Running.{line_bare, starts_bare}
+use Rattle.joint_history.proofs.Running.{line_bare}
 use Rattle.joint_history.proofs.SeatDraws.{step_is_plain}
 
 -- on which side a thread's lines are
@@ -82,20 +83,20 @@ call_side t (op.Release h) is = (refl, refl)
 call_side t o is = absurd is
 
 -- an `adopt` and a `meet` cite an entry in their thread's turn, and no other step does
-adopt_cites : (d : Doing) (t : Thread) (l : ℕ) (v : Var) (kind : Kind) (k : ℕ) (p : PNum) (h : HNum) (cites : Option ℕ) → MayAdopt d t l (op.Adopt v kind k p h) cites → IsSome cites
+adopt_cites : (d : Doing) (t : Thread) (l : ℕ) (v : Var) (kind : Kind) (k : ℕ) (p : PNum) (h : HNum) (cites : Option ℕ) → ThreadAllows d t l (op.Adopt v kind k p h) cites → IsSome cites
 adopt_cites (made n line p' h' sort f) t l v kind k p h cites w = subst IsSome (sym w.0) refl
 adopt_cites d t l v kind k p h cites w = absurd w
 
-meet_cites : (d : Doing) (l : ℕ) (v : Var) (sort : Sort) (f : ℕ) (p : PNum) (h : HNum) (cites : Option ℕ) → MayMeet d l (op.Meet v sort f p h) cites → IsSome cites
-meet_cites (gripped n line p' h' sort' f') l v sort f p h cites w = subst IsSome (sym w.0) refl
-meet_cites d l v sort f p h cites w = absurd w
+meet_cites : (d : Doing) (t : Thread) (l : ℕ) (v : Var) (sort : Sort) (f : ℕ) (p : PNum) (h : HNum) (cites : Option ℕ) → ThreadAllows d t l (op.Meet v sort f p h) cites → IsSome cites
+meet_cites (gripped n line p' h' sort' f') t l v sort f p h cites w = subst IsSome (sym w.0) refl
+meet_cites d t l v sort f p h cites w = absurd w
 
 thread_cites : (d : Doing) (t : Thread) (l : ℕ) (o : Op) (cites : Option ℕ) → IsStepBy t o → ThreadAllows d t l o cites → CitesRightly o cites
 thread_cites d t l (op.Adopt v kind k p h) cites b w = adopt_cites d t l v kind k p h cites w
-thread_cites d t l (op.Meet v sort f p h) cites b w = meet_cites d l v sort f p h cites w
-thread_cites d t l (op.Line a) cites b w = starts_bare d cites w
-thread_cites d t l (op.Lend v x) cites b w = starts_bare d cites w
-thread_cites d t l (op.Give v) cites b w = starts_bare d cites w
+thread_cites d t l (op.Meet v sort f p h) cites b w = meet_cites d t l v sort f p h cites w
+thread_cites d t l (op.Line a) cites b w = thread-none d t l (op.Line a) cites tt w
+thread_cites d t l (op.Lend v x) cites b w = thread-none d t l (op.Lend v x) cites tt w
+thread_cites d t l (op.Give v) cites b w = thread-none d t l (op.Give v) cites tt w
 thread_cites d t l o cites b w = absurd b
 
 cites_rightly : (t : Thread) (d : Doing) (l : ℕ) (o : Op) (cites : Option ℕ) → IsManagedStep t o → IsTurn t d l o cites → CitesRightly o cites

@@ -11,12 +11,13 @@ use Rattle.joint_machine.specs.declared.lines.Act.{Act}
 use Rattle.joint_machine.specs.declared.lines.Act.TheVariants as act
 use Rattle.joint_machine.specs.declared.events.Op.TheVariants as op
 use Rattle.joint_machine.specs.declared.events.Reply.{Reply}
-use Rattle.joint_machine.specs.Control.{Doing, IsDone, MayStart, free, made, lent, gripped, given, met}
+use Rattle.joint_machine.specs.Control.{IsDone}
 use Rattle.joint_machine.specs.HistoryLines.{caller_line}
 use Rattle.joint_machine.specs.Lines.{IsEvent, IsManagedThread, is_read}
 use Rattle.joint_machine.specs.ManagedReplay.{ManagedReplay}
 use Rattle.joint_machine.specs.Sides.{cell_target}
 use Rattle.joint_machine.specs.Told.{nothing}
+use Rattle.joint_laws.proofs.ReadsAside.{line-done}
 use Rattle.known_laws.specs.Drawn.{drawn}
 use Rattle.known_laws.specs.Known.{Comes, managed_past}
 use Rattle.known_laws.specs.Pasts.{end_of, line}
@@ -49,14 +50,6 @@ read_sets_none : (s : ManagedReplay) (n : ℕ) (a : Act) (reply : Reply) → IsR
 read_sets_none s n (act.Read k) reply r = refl
 read_sets_none s n (act.Await k) reply r = refl
 read_sets_none s n a reply r = absurd r
-
-start_is_done : (d : Doing) → MayStart d None → IsDone d
-start_is_done free w = tt
-start_is_done (made n l p h sort f) w = tt
-start_is_done (lent n l h x) w = tt
-start_is_done (gripped n l p h sort f) w = tt
-start_is_done (given n l h) w = absurd w
-start_is_done (met n l h) w = absurd w
 
 -- what stands in a line of one history stands in its list there
 item_in : (i n : ℕ) (xs : List Item) (k : KeptEntry) → RunsFrom n xs → Contains (of_line i xs) k → (x : Item) × (x.kept ≡ k) × (is_in i x ≡ true) × IsInRole x.role x.kept.entry.made
@@ -93,7 +86,7 @@ module _ (reader index : ℕ) (a : Act) (g : Got) (number : ℕ) (mine before af
   comes : Comes (is_read (op.Line a)) (end_of j.known.past) (note_of k.entry nothing)
   comes = reader_entry_comes (end_of j.known.past) number (read_made reader index a g) (read_event reader a is read) (reads_cell a read)
       (last_told (M reader) j.known.past may.stands.known.known.past index own may.stands.last) short
-      (subst IsDone (sym (doing_told (M reader) j.known.past may.stands.known.known.past own ∙ may.stands.doing)) (start_is_done may.doing may.turn)) refl
+      (subst IsDone (sym (doing_told (M reader) j.known.past may.stands.known.known.past own ∙ may.stands.doing)) (line-done may.doing (M reader) index a None may.turn)) refl
 
   pub reader_entered : Entered (M reader) mine after j.known.past k nothing
   reader_entered = entered (M reader) mine before after (1 + reader) k nothing j is refl r.grows

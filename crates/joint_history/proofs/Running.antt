@@ -18,11 +18,13 @@ use Rattle.joint_machine.specs.declared.events.Op.{Op}
 use Rattle.joint_machine.specs.declared.events.Op.TheVariants as op
 use Rattle.joint_machine.specs.declared.events.Reply.{Reply}
 use Rattle.joint_machine.specs.declared.events.Reply.TheVariants as says
-use Rattle.joint_machine.specs.Control.{Doing, IsDone, MayStart, free, made, lent, gripped, given, met, doing_after}
+use Rattle.joint_machine.specs.Control.{IsDone, met, doing_after}
 use Rattle.joint_machine.specs.Draws.{numbered}
 use Rattle.joint_machine.specs.HistoryLines.{caller_line}
 use Rattle.joint_machine.specs.Lines.{IsLine, IsManagedThread, IsPeerThread, IsThread, is_peer_event}
 use Rattle.joint_machine.proofs.Deciding.{none_some, some-same}
+use Rattle.known_laws.specs.Turns.{OpensOperation}
+use Rattle.known_laws.proofs.Citing.{thread-none}
 use Rattle.order_table.specs.declared.views.View.{View}
 use Rattle.order_table.specs.Rule.{IsBelow}
 use Rattle.order_table.specs.Views.{known}
@@ -35,7 +37,7 @@ use Rattle.joint_history.specs.Operations.{AreAbove, StopsWithoutMemory, IsEvent
 use Rattle.joint_history.specs.Operations.{cited_by, entry_by, first_of, second_of, third_of}
 use Rattle.joint_history.proofs.LastLines.{last_line_is}
 use Rattle.joint_history.proofs.Narrow.{GripsFew, past_grips_few}
-use Rattle.joint_history.proofs.Turning.{OpensOperation, first_may, met_then_release, stands_knows, then_adopt, then_land, then_meet, then_release}
+use Rattle.joint_history.proofs.Turning.{first_may, met_then_release, stands_knows, then_adopt, then_land, then_meet, then_release}
 
 -- what an event leaves by its result
 pub none_from : {A : Type 0} (o : Option A) → ((x : A) → o ≡ Some x → ⊥) → o ≡ None
@@ -393,17 +395,9 @@ pub breaks_none : {A E : Type 0} (t : Thread) (old new : View) (index : ℕ) (a 
 breaks_none t old new index a (Ok x) is line b = tt
 breaks_none t old new index a (Err x) is line b = peer_makes_none t old new index a is line b
 
--- a read is its own operation, and cites nothing
-pub starts_bare : (d : Doing) (cites : Option ℕ) → MayStart d cites → cites ≡ None
-starts_bare free cites w = w
-starts_bare (made n l p h sort f) cites w = w
-starts_bare (lent n l h x) cites w = w
-starts_bare (gripped n l p h sort f) cites w = w
-starts_bare (given n l h) cites w = absurd w
-starts_bare (met n l h) cites w = absurd w
-
+-- a line is its own operation, and cites nothing
 pub line_bare : (t : Thread) (v : View) (index : ℕ) (a : Act) (cites : Option ℕ) → IsManagedThread t → MayMake t v index (op.Line a) cites → cites ≡ None
-line_bare (M n) v index a cites is may = starts_bare may.doing cites may.turn
+line_bare (M n) v index a cites is may = thread-none may.doing (M n) index (op.Line a) cites tt may.turn
 line_bare (P n) v index a cites is may = absurd is
 line_bare C v index a cites is may = absurd is
 

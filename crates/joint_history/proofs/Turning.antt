@@ -20,6 +20,7 @@ use Rattle.joint_machine.specs.HistoryLines.{caller_line}
 use Rattle.joint_machine.specs.Lines.{IsThread, IsLine}
 use Rattle.joint_machine.specs.Linked.{Linkage}
 use Rattle.known_laws.specs.Pasts.{end_of}
+use Rattle.known_laws.specs.Turns.{OpensOperation}
 use Rattle.order_table.specs.declared.views.View.{View}
 use Rattle.joint_history.specs.Knowing.{line_known}
 use Rattle.joint_history.specs.Callers.{CallerKnows, HasReleased, last_index}
@@ -54,23 +55,8 @@ released_by C s d e w = tt
 pub stands_knows : (t : Thread) (v : View) (index : ℕ) (d : Doing) → Stands t v index d → IsDone d → CallerKnows t v
 stands_knows t v index d s w = record { known = s.known; released = released_by t (end_of s.known.known.past) d s.doing w }
 
--- the event is the first of an operation
-abbrev pub OpensOperation : Op → Type 0
-OpensOperation (op.Adopt v kind k p h) = ⊥
-OpensOperation (op.Land h x) = ⊥
-OpensOperation (op.Meet v sort k p h) = ⊥
-OpensOperation (op.Release h) = ⊥
-OpensOperation o = Unit {0}
-
 first_turn : (t : Thread) (d : Doing) (index : ℕ) (o : Op) → IsOwnThread t → IsDone d → OpensOperation o → IsTurn t d index o None
-first_turn (M n) d index o is w f = by o f
-  where
-    by : (q : Op) → OpensOperation q → IsTurn (M n) d index q None
-    by (op.Adopt v kind k p h) g = absurd g
-    by (op.Land h x) g = absurd g
-    by (op.Meet v sort k p h) g = absurd g
-    by (op.Release h) g = absurd g
-    by q g = starts d w
+first_turn (M n) d index o is w f = starts d (M n) index o f w
 first_turn (P n) d index o is w f = refl
 first_turn C d index o is w f = absurd is
 

@@ -5,7 +5,7 @@ use Rattle.joint_machine.specs.declared.names.Marking.{Marking}
 use Rattle.joint_machine.specs.declared.names.Thread.TheVariants.{C}
 use Rattle.joint_machine.specs.declared.events.Op.TheVariants as op
 use Rattle.joint_machine.specs.declared.events.Reply.TheVariants as says
-use Rattle.joint_machine.specs.Control.{OpenSnap, Stand, weakening, marked, restoring, MaySweepNow}
+use Rattle.joint_machine.specs.Control.{OpenSnap, Stand, weakening, marked, restoring, DriverAllows}
 use Rattle.joint_machine.specs.Managed.{Managed, candidates_of}
 use Rattle.joint_machine.specs.PeerReplay.{PeerReplay}
 use Rattle.joint_machine.specs.Sides.{Side, peer_rules}
@@ -62,10 +62,11 @@ pub record DriverEndsMarking (old new : View) (index n : ℕ) (out : Swept) (sta
       (driver_entry n index op.Sweep (says.Swept out.marking out.freed) None) (sweep_of freed)
   pub stands : DriverStands new index (after_sweep stand) m
 
--- so it is from wherever the driver might end one
+-- so it is from wherever the driver might end one, which goes by nothing that was issued or is told
 abbrev pub MakesSweep : View → View → ℕ → ℕ → Swept → Type 0
 MakesSweep old new index n out = (stand : Stand) (m : Managed) → DriverStands old index stand m
-    → MaySweepNow stand (length (candidates_of m)) None → DriverEndsMarking old new index n out stand m
+    → DriverAllows stand m [] op.Sweep (says.Swept out.marking out.freed) None nothing
+    → DriverEndsMarking old new index n out stand m
 
 -- all handles of the driver's cycle are weakened, and no marking was begun or ended in it
 pub record MayMarkCycle (v : View) (index : ℕ) : Type 0 where

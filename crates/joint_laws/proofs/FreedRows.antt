@@ -11,7 +11,7 @@ use Rattle.joint_machine.specs.declared.events.Op.{Op}
 use Rattle.joint_machine.specs.declared.events.Op.TheVariants as op
 use Rattle.joint_machine.specs.declared.events.Reply.{Reply}
 use Rattle.joint_machine.specs.declared.events.Made.{Made}
-use Rattle.joint_machine.specs.Control.{Stand, idle, snapped, contracted, weakening, marked, restoring, restored, MayResolveNow}
+use Rattle.joint_machine.specs.Control.{Stand, idle, snapped, contracted, weakening, marked, restoring, restored, DriverAllows}
 use Rattle.joint_machine.specs.Heaps.{place, slot}
 use Rattle.joint_machine.specs.Lines.{IsEvent, is_peer_event}
 use Rattle.joint_machine.specs.Linked.{Linkage, MayCome, SideLawful, linkage_after, managed_after}
@@ -71,9 +71,10 @@ freed-by s m told false k n l = answer-freed s.managed k m.caller m.op told n l.
 
 module _ (s : Linkage) (k : Of s) (x h p : ℕ) (holds : Holds s.managed.managed x h) (leads : peer_of s.peer.peers.issued h ≡ Some p) where
   -- at a resolution by the answers
-  kept-answer : (c : ℕ) (alive : List Answer) (freed : List ℕ) (cites : Option ℕ) (st : Stand) → DriverInvariant s.managed s.peer st
-      → MayResolveNow st c cites (resolution_of alive freed) → MayResolve s.managed c alive freed → Contains freed x → Contains s.peer.peers.heap.freed p
-  kept-answer c alive freed cites (restored o answers clear) d a w f =
+  kept-answer : (c : ℕ) (alive : List Answer) (freed : List ℕ) (reply : Reply) (cites : Option ℕ) (st : Stand) → DriverInvariant s.managed s.peer st
+      → DriverAllows st s.managed.managed s.peer.peers.issued (op.Resolve record { 0 = c }) reply cites (resolution_of alive freed)
+      → MayResolve s.managed c alive freed → Contains freed x → Contains s.peer.peers.heap.freed p
+  kept-answer c alive freed reply cites (restored o answers clear) d a w f =
       let same : w.cycle ≡ d.cycle = same_Some w.cycle d.cycle (sym w.open_cycle.0 ∙ d.opened.cycle) in
       let out = (w.resolution.frees x).0 f in
       let cut = k.managed.managed.dead d.cycle d.opened.cycle in
@@ -91,12 +92,12 @@ module _ (s : Linkage) (k : Of s) (x h p : ℕ) (holds : Holds s.managed.managed
           | inr u ↦ absurd (omega (arith, u.0, slice_get_within d.cycle.candidates at.0 x at.1, d.all))
         ]
       ]
-  kept-answer c alive freed cites idle d a w f = absurd a
-  kept-answer c alive freed cites (snapped o) d a w f = absurd a
-  kept-answer c alive freed cites (contracted o comps heavy xrefs) d a w f = absurd a
-  kept-answer c alive freed cites (weakening o count seen sw) d a w f = absurd a
-  kept-answer c alive freed cites (marked o) d a w f = absurd a
-  kept-answer c alive freed cites (restoring o answers) d a w f = absurd a
+  kept-answer c alive freed reply cites idle d a w f = absurd a
+  kept-answer c alive freed reply cites (snapped o) d a w f = absurd a
+  kept-answer c alive freed reply cites (contracted o comps heavy xrefs) d a w f = absurd a
+  kept-answer c alive freed reply cites (weakening o count seen sw) d a w f = absurd a
+  kept-answer c alive freed reply cites (marked o) d a w f = absurd a
+  kept-answer c alive freed reply cites (restoring o answers) d a w f = absurd a
 
   module _ (line : ℕ) (reply : Reply) (cites : Option ℕ) where
     stays-live : (t : Thread) (o : Op) (told : Told) → (FreesRows o → ⊥) → SideLawful (is_peer_event t o) s (entry t line o reply cites) told
@@ -114,7 +115,7 @@ module _ (s : Linkage) (k : Of s) (x h p : ℕ) (holds : Holds s.managed.managed
     by (P u) (op.Snap c) told e w a f = absurd e
     by C (op.Resolve c) (resolution_of alive freed) e w a f = elim (Contains-append_cases s.managed.managed.heap.freed freed x f) [
       | inl old ↦ absurd (holds.live.kept old)
-      | inr new ↦ kept-answer c.0 alive freed cites s.control.stand k.driver a w.allowed new
+      | inr new ↦ kept-answer c.0 alive freed reply cites s.control.stand k.driver a w.allowed new
     ]
     by C (op.Resolve c) told e w a f = absurd w.allowed
     by (M u) (op.Resolve c) told e w a f = absurd e

@@ -14,8 +14,7 @@ use Rattle.joint_machine.specs.declared.lines.Act.TheVariants as act
 use Rattle.joint_machine.specs.declared.events.Op.{Op}
 use Rattle.joint_machine.specs.declared.events.Op.TheVariants as op
 use Rattle.joint_machine.specs.declared.events.Reply.{Reply}
-use Rattle.joint_machine.specs.Control.{Doing, Stand, idle, snapped, contracted, weakening, marked, restoring, restored, control_after, stand_after, MayContractNow, MayMirrorNow, MayWeakenNow}
-use Rattle.joint_machine.specs.Control.{MayBeginNow, MaySweepNow, MayClearNow, MayRestoreNow, MayResolveNow, MayAbandonNow}
+use Rattle.joint_machine.specs.Control.{Doing, Stand, idle, snapped, contracted, weakening, marked, restoring, restored, control_after, stand_after, DriverAllows}
 use Rattle.joint_machine.specs.Cycles.{IsResolution, IsAnsweredAlive, resolve_reply}
 use Rattle.joint_machine.specs.Heaps.{Answered, place, slot}
 use Rattle.joint_machine.specs.Joint.{Joint, JointMarking, twin_of}
@@ -84,6 +83,10 @@ module _ (s : Linkage) (k : Of s) (flags : Flags) (jm : Option JointMarking) (ag
   abbrev d : Stand
   d = s.control.stand
 
+  -- the driver's event may come at the stand x
+  abbrev May : Stand → Op → Told → Type 0
+  May x o told = DriverAllows x r.managed q.peers.issued o reply cites told
+
   abbrev j : Joint
   j = joint_as r.managed q flags jm
 
@@ -113,7 +116,7 @@ module _ (s : Linkage) (k : Of s) (flags : Flags) (jm : Option JointMarking) (ag
   goes-as m n e g = subst (λ z. GoesOn r.managed z) (sym e) g
 
   resolve-by : (x : Stand) (n : ℕ) (alive : List Answer) (freed : List ℕ) → BothInvariants r q ds x → AreTold x r.managed flags
-      → MayResolveNow x n cites (resolution_of alive freed) → MayResolve r n alive freed → reply ≡ resolve_reply r.managed freed
+      → May x (op.Resolve record { 0 = n }) (resolution_of alive freed) → MayResolve r n alive freed → reply ≡ resolve_reply r.managed freed
       → (kn : Cycle) → kn.0 ≡ n → Steps r.managed q flags [] jm C (op.Resolve kn) reply (resolution_of alive freed) (resolved_state r.managed alive freed) q
   resolve-by (restored o answers clear) n alive freed kx tx w p e kn same_n =
       let same_cycle : p.cycle ≡ kx.driver.cycle = one_cycle r.managed p.cycle kx.driver.cycle p.open_cycle.0 kx.driver.opened.cycle in
@@ -152,7 +155,7 @@ module _ (s : Linkage) (k : Of s) (flags : Flags) (jm : Option JointMarking) (ag
   none-told : (c : ℕ) → All (λ (a : Option Answer). a ≡ None) (replicate c None)
   none-told c = All-members (λ (a : Option Answer). a ≡ None) (replicate c None) (λ a w. replicate-member c a w)
 
-  abandon-told : (x : Stand) (n : ℕ) → AreTold x r.managed flags → MayAbandonNow x n cites → All (λ (a : Option Answer). a ≡ None) flags.answers
+  abandon-told : (x : Stand) (n : Cycle) → AreTold x r.managed flags → May x (op.Abandon n) nothing → All (λ (a : Option Answer). a ≡ None) flags.answers
   abandon-told (snapped o) n tx w = subst (λ z. All (λ (a : Option Answer). a ≡ None) z) (sym tx) (none-told (length (candidates_of r.managed)))
   abandon-told (contracted o comps heavy xrefs) n tx w = subst (λ z. All (λ (a : Option Answer). a ≡ None) z) (sym tx) (none-told (length (candidates_of r.managed)))
   abandon-told idle n tx w = absurd w
@@ -161,7 +164,7 @@ module _ (s : Linkage) (k : Of s) (flags : Flags) (jm : Option JointMarking) (ag
   abandon-told (restoring o answers) n tx w = absurd w
   abandon-told (restored o answers clear) n tx w = absurd w
 
-  restore-by : (x : Stand) (h : HNum) (told : Told) → BothInvariants r q ds x → AreTold x r.managed flags → MayRestoreNow x r.managed h.0 cites
+  restore-by : (x : Stand) (h : HNum) (told : Told) → BothInvariants r q ds x → AreTold x r.managed flags → May x (op.Restore h) told
       → MayRestore q h.0 → reply ≡ (restored_by q h.0 (row_of q h.0)).reply
       → Steps r.managed q flags (answers_at (stand_after x number (op.Restore h) reply nothing) (length (candidates_of r.managed))) jm C
       (op.Restore h) reply nothing r.managed (restored_by q h.0 (row_of q h.0)).state
@@ -174,27 +177,26 @@ module _ (s : Linkage) (k : Of s) (flags : Flags) (jm : Option JointMarking) (ag
   restore-by (restored o answers clear) h told kx tx w p e = absurd w
 
   -- the driver's other entries leave what restores have answered
-  contract-told : (x : Stand) (n : ℕ) (c : ℕ) (kn : Cycle) (told : Told) → MayContractNow x n cites → answers_at x c ≡ answers_at (stand_after x number (op.Contract kn) reply told) c
-  contract-told (snapped o) n c kn (contraction_of comps heavy xrefs) w = refl
-  contract-told (snapped o) n c kn _ w = refl
-  contract-told idle n c kn told w = absurd w
-  contract-told (contracted o comps heavy xrefs) n c kn told w = absurd w
-  contract-told (weakening o count seen sw) n c kn told w = absurd w
-  contract-told (marked o) n c kn told w = absurd w
-  contract-told (restoring o answers) n c kn told w = absurd w
-  contract-told (restored o answers clear) n c kn told w = absurd w
+  contract-told : (x : Stand) (c : ℕ) (n : Cycle) (told : Told) → May x (op.Contract n) told → answers_at x c ≡ answers_at (stand_after x number (op.Contract n) reply told) c
+  contract-told (snapped o) c n (contraction_of comps heavy xrefs) w = refl
+  contract-told (snapped o) c n _ w = refl
+  contract-told idle c n told w = absurd w
+  contract-told (contracted o comps heavy xrefs) c n told w = absurd w
+  contract-told (weakening o count seen sw) c n told w = absurd w
+  contract-told (marked o) c n told w = absurd w
+  contract-told (restoring o answers) c n told w = absurd w
+  contract-told (restored o answers clear) c n told w = absurd w
 
-  mirror-told : (x : Stand) (n : ℕ) (c : ℕ) (kn : Cycle) (told : Told) → MayMirrorNow x r.managed q.peers.issued n cites told
-      → answers_at x c ≡ answers_at (stand_after x number (op.Mirror kn) reply told) c
-  mirror-told (contracted o comps heavy xrefs) n c kn told w = refl
-  mirror-told idle n c kn told w = absurd w
-  mirror-told (snapped o) n c kn told w = absurd w
-  mirror-told (weakening o count seen sw) n c kn told w = absurd w
-  mirror-told (marked o) n c kn told w = absurd w
-  mirror-told (restoring o answers) n c kn told w = absurd w
-  mirror-told (restored o answers clear) n c kn told w = absurd w
+  mirror-told : (x : Stand) (c : ℕ) (n : Cycle) (told : Told) → May x (op.Mirror n) told → answers_at x c ≡ answers_at (stand_after x number (op.Mirror n) reply told) c
+  mirror-told (contracted o comps heavy xrefs) c n told w = refl
+  mirror-told idle c n told w = absurd w
+  mirror-told (snapped o) c n told w = absurd w
+  mirror-told (weakening o count seen sw) c n told w = absurd w
+  mirror-told (marked o) c n told w = absurd w
+  mirror-told (restoring o answers) c n told w = absurd w
+  mirror-told (restored o answers clear) c n told w = absurd w
 
-  weaken-told : (x : Stand) (h : HNum) (c : ℕ) (told : Told) → MayWeakenNow x r.managed h.0 cites → answers_at x c ≡ answers_at (stand_after x number (op.Weaken h) reply told) c
+  weaken-told : (x : Stand) (h : HNum) (c : ℕ) (told : Told) → May x (op.Weaken h) told → answers_at x c ≡ answers_at (stand_after x number (op.Weaken h) reply told) c
   weaken-told (weakening o count seen sw) h c told w = refl
   weaken-told idle h c told w = absurd w
   weaken-told (snapped o) h c told w = absurd w
@@ -203,7 +205,7 @@ module _ (s : Linkage) (k : Of s) (flags : Flags) (jm : Option JointMarking) (ag
   weaken-told (restoring o answers) h c told w = absurd w
   weaken-told (restored o answers clear) h c told w = absurd w
 
-  begin-told : (x : Stand) (c : ℕ) (told : Told) → MayBeginNow x c reply cites → answers_at x c ≡ answers_at (stand_after x number op.Begin reply told) c
+  begin-told : (x : Stand) (c : ℕ) (told : Told) → May x op.Begin told → answers_at x c ≡ answers_at (stand_after x number op.Begin reply told) c
   begin-told (weakening o count seen sw) c told w = refl
   begin-told idle c told w = absurd w
   begin-told (snapped o) c told w = absurd w
@@ -212,7 +214,7 @@ module _ (s : Linkage) (k : Of s) (flags : Flags) (jm : Option JointMarking) (ag
   begin-told (restoring o answers) c told w = absurd w
   begin-told (restored o answers clear) c told w = absurd w
 
-  sweep-told : (x : Stand) (c : ℕ) (told : Told) → MaySweepNow x c cites → answers_at x c ≡ answers_at (stand_after x number op.Sweep reply told) c
+  sweep-told : (x : Stand) (c : ℕ) (told : Told) → May x op.Sweep told → answers_at x c ≡ answers_at (stand_after x number op.Sweep reply told) c
   sweep-told (weakening o count seen sw) c told w = refl
   sweep-told (marked o) c told w = ap (λ n. replicate n None) (omega arith)
   sweep-told idle c told w = absurd w
@@ -221,14 +223,14 @@ module _ (s : Linkage) (k : Of s) (flags : Flags) (jm : Option JointMarking) (ag
   sweep-told (restoring o answers) c told w = absurd w
   sweep-told (restored o answers clear) c told w = absurd w
 
-  clear-told : (x : Stand) (n : ℕ) (c : ℕ) (kn : Cycle) (told : Told) → MayClearNow x c n cites → answers_at x c ≡ answers_at (stand_after x number (op.Clear kn) reply told) c
-  clear-told (restoring o answers) n c kn told w = refl
-  clear-told idle n c kn told w = absurd w
-  clear-told (snapped o) n c kn told w = absurd w
-  clear-told (contracted o comps heavy xrefs) n c kn told w = absurd w
-  clear-told (weakening o count seen sw) n c kn told w = absurd w
-  clear-told (marked o) n c kn told w = absurd w
-  clear-told (restored o answers clear) n c kn told w = absurd w
+  clear-told : (x : Stand) (c : ℕ) (n : Cycle) (told : Told) → May x (op.Clear n) told → answers_at x c ≡ answers_at (stand_after x number (op.Clear n) reply told) c
+  clear-told (restoring o answers) c n told w = refl
+  clear-told idle c n told w = absurd w
+  clear-told (snapped o) c n told w = absurd w
+  clear-told (contracted o comps heavy xrefs) c n told w = absurd w
+  clear-told (weakening o count seen sw) c n told w = absurd w
+  clear-told (marked o) c n told w = absurd w
+  clear-told (restored o answers clear) c n told w = absurd w
 
   refused-told : (x : Stand) (c : ℕ) (y : PhaseWord) (told : Told) → answers_at x c ≡ answers_at (stand_after x number (op.Refused y) reply told) c
   refused-told idle c y told = refl
@@ -313,7 +315,7 @@ module _ (s : Linkage) (k : Of s) (flags : Flags) (jm : Option JointMarking) (ag
   outcome (P u) (op.Give v) told e w x after = absurd e.0
   outcome C (op.Give v) told e w x after = absurd e.0
   outcome (M u) (op.Release h) told e w x after = stepped (M u) (op.Release h) told _ _ _ refl tl
-      (step-release r q ds d k flags jm ag u h reply told ((threads-callers r q ds d k).loose u h.0 (release-hand (doing_in ds u) line h.0 cites x)) w.replies)
+      (step-release r q ds d k flags jm ag u h reply told ((threads-callers r q ds d k).loose u h.0 (release-hand (doing_in ds u) (M u) line h cites x)) w.replies)
   outcome (P u) (op.Release h) told e w x after = absurd e
   outcome C (op.Release h) told e w x after = absurd e
   outcome C (op.Snap n) (snap_of freed candidates dead) e w x after = moves refl (record {
@@ -327,12 +329,12 @@ module _ (s : Linkage) (k : Of s) (flags : Flags) (jm : Option JointMarking) (ag
   outcome (M u) (op.Snap n) told e w x after = absurd e
   outcome (P u) (op.Snap n) told e w x after = absurd e
   outcome C (op.Contract n) (contraction_of comps heavy xrefs) e w x after = rests refl (rests-still r.managed q flags jm ag)
-      (tl ∙ contract-told d n.0 (length (candidates_of r.managed)) n (contraction_of comps heavy xrefs) x)
+      (tl ∙ contract-told d (length (candidates_of r.managed)) n (contraction_of comps heavy xrefs) x)
   outcome C (op.Contract n) told e w x after = absurd w.allowed
   outcome (M u) (op.Contract n) told e w x after = absurd e
   outcome (P u) (op.Contract n) told e w x after = absurd e
   outcome C (op.Mirror n) (references_of refs) e w x after = rests refl (rests-mirrored r.managed q flags jm ag n.0 cites refs)
-      (tl ∙ mirror-told d n.0 (length (candidates_of r.managed)) n (references_of refs) x)
+      (tl ∙ mirror-told d (length (candidates_of r.managed)) n (references_of refs) x)
   outcome C (op.Mirror n) told e w x after = absurd w.allowed
   outcome (M u) (op.Mirror n) told e w x after = absurd e
   outcome (P u) (op.Mirror n) told e w x after = absurd e
@@ -346,7 +348,7 @@ module _ (s : Linkage) (k : Of s) (flags : Flags) (jm : Option JointMarking) (ag
   outcome C (op.Restore h) told e w x after = absurd w.allowed
   outcome (M u) (op.Restore h) told e w x after = absurd e
   outcome (P u) (op.Restore h) told e w x after = absurd e
-  outcome C (op.Clear n) told e w x after = rests refl (rests-cleared r.managed q flags jm ag) (tl ∙ clear-told d n.0 (length (candidates_of r.managed)) n told x)
+  outcome C (op.Clear n) told e w x after = rests refl (rests-cleared r.managed q flags jm ag) (tl ∙ clear-told d (length (candidates_of r.managed)) n told x)
   outcome (M u) (op.Clear n) told e w x after = absurd e
   outcome (P u) (op.Clear n) told e w x after = absurd e
   outcome C (op.Resolve n) (resolution_of alive freed) e w x after = moves refl (resolve-by d n.0 alive freed k tl x w.allowed w.replies n refl)
@@ -357,7 +359,7 @@ module _ (s : Linkage) (k : Of s) (flags : Flags) (jm : Option JointMarking) (ag
     flags_after = record { removed = flags.removed; answers = [] };
     told_after = refl;
     marking_after = jm;
-    event = record { cycle = w.allowed.0; open_cycle = w.allowed.1; none_answered = abandon-told d n.0 tl x; replies = w.replies; state = refl };
+    event = record { cycle = w.allowed.0; open_cycle = w.allowed.1; none_answered = abandon-told d n tl x; replies = w.replies; state = refl };
     agrees = record { removed = ag.removed; markings = ag.markings };
   })
   outcome C (op.Abandon n) told e w x after = absurd w.allowed

@@ -11,13 +11,12 @@ use Rattle.joint_machine.specs.declared.lines.Act.{Act}
 use Rattle.joint_machine.specs.declared.events.Op.{Op}
 use Rattle.joint_machine.specs.declared.events.Op.TheVariants as op
 use Rattle.joint_machine.specs.declared.events.Reply.{Reply}
-use Rattle.joint_machine.specs.Control.{OpenSnap, Stand, idle, snapped, contracted, weakening, marked, restoring, restored, stand_after, MayContractNow, MayMirrorNow, MayWeakenNow, MayBeginNow}
-use Rattle.joint_machine.specs.Control.{MaySweepNow, MayRestoreNow, MayClearNow, MayResolveNow}
+use Rattle.joint_machine.specs.Control.{OpenSnap, Stand, idle, snapped, contracted, weakening, marked, restoring, restored, stand_after, DriverAllows}
 use Rattle.joint_machine.specs.Cycles.{IsResolution, IsAnsweredAlive}
 use Rattle.joint_machine.specs.Headline.{IsCompleteCycle}
 use Rattle.joint_machine.specs.Lines.{IsEvent}
 use Rattle.joint_machine.specs.Linked.{Linkage, MayCome, linkage_after}
-use Rattle.joint_machine.specs.Managed.{OpenCycle, candidates_of}
+use Rattle.joint_machine.specs.Managed.{OpenCycle}
 use Rattle.joint_machine.specs.ManagedReplay.{MayResolve}
 use Rattle.joint_machine.specs.PeerReplay.{Marking, begun, swept, SweepAllows}
 use Rattle.joint_machine.specs.Run.{Moment, is_joint}
@@ -50,6 +49,10 @@ module _ (s : Linkage) (w : Stands s) (past : List Moment) (number line : ℕ) (
   abbrev d : Stand
   d = s.control.stand
 
+  -- the driver's event may come at the stand x
+  abbrev May : Stand → Op → Told → Type 0
+  May x o told = DriverAllows x s.managed.managed s.peer.peers.issued o reply cites told
+
   -- after a step of the joint machine, at the stand y
   abbrev Next : (t : Thread) (o : Op) (told : Told) → Stands (After t o told) → Stand → Type 0
   Next t o told v y = Journey (past ++ moment_of s (noted t o told) w v ∷ []) (After t o told) v y
@@ -62,16 +65,16 @@ module _ (s : Linkage) (w : Stands s) (past : List Moment) (number line : ℕ) (
   Kept t o told y = DriverInvariant (After t o told).managed (After t o told).peer y
 
   -- the begin of the own marking
-  none-open : (o : OpenSnap) (count : ℕ) (seen sw : Bool) (x : Option Marking) → reply ≡ (begun s.peer x C).reply
-      → MayBeginNow (weakening o count seen sw) (length (candidates_of s.managed.managed)) reply cites → x ≡ None
-  none-open o count seen sw None e a = refl
-  none-open o count seen sw (Some mk) e a = absurd (subst (λ z. MayBeginNow (weakening o count seen sw) (length (candidates_of s.managed.managed)) z cites) e a)
+  none-open : (o : OpenSnap) (count : ℕ) (seen sw : Bool) (told : Told) (x : Option Marking) → reply ≡ (begun s.peer x C).reply
+      → May (weakening o count seen sw) op.Begin told → x ≡ None
+  none-open o count seen sw told None e a = refl
+  none-open o count seen sw told (Some mk) e a = absurd (subst (λ z. DriverAllows (weakening o count seen sw) s.managed.managed s.peer.peers.issued op.Begin z cites told) e a)
 
   begin-by : length s.peer.peers.heap.vars ≡ 72 → length s.peer.peers.heap.statics ≡ 16 → (told : Told) → MayCome s (noted C op.Begin told)
-      → (v : Stands (After C op.Begin told)) → (x : Stand) → MayBeginNow x (length (candidates_of s.managed.managed)) reply cites
+      → (v : Stands (After C op.Begin told)) → (x : Stand) → May x op.Begin told
       → Kept C op.Begin told (stand_after x number op.Begin reply told) → Journey past s w x → Next C op.Begin told v (stand_after x number op.Begin reply told)
   begin-by vars statics told may v (weakening o count seen sw) a to k =
-      let none : s.peer.marking ≡ None = none-open o count seen sw s.peer.marking may.lawful.replies a in
+      let none : s.peer.marking ≡ None = none-open o count seen sw told s.peer.marking may.lawful.replies a in
       let goes = heap-entry s (noted C op.Begin told) in
       begin-turn s (noted C op.Begin told) w v past o may to k (ap (λ z. (begun s.peer z C).state) none) refl refl
       (may.lawful.replies ∙ ap (λ z. (begun s.peer z C).reply) none) (goes.vars ∙ vars) (goes.statics ∙ statics)
@@ -84,7 +87,7 @@ module _ (s : Linkage) (w : Stands s) (past : List Moment) (number line : ℕ) (
 
   -- a sweep of the driver's, of a peer thread's marking or of the own one
   sweep-by : ((i : ℕ) (x : Moment) → slice_get past i ≡ Some x → IsTraced x) → (told : Told) → MayCome s (noted C op.Sweep told)
-      → (v : Stands (After C op.Sweep told)) → (x : Stand) → MaySweepNow x (length (candidates_of s.managed.managed)) cites
+      → (v : Stands (After C op.Sweep told)) → (x : Stand) → May x op.Sweep told
       → Kept C op.Sweep told (stand_after x number op.Sweep reply told) → Journey past s w x → Next C op.Sweep told v (stand_after x number op.Sweep reply told)
   sweep-by traced told may v (weakening o count seen sw) a to k = way-next s (noted C op.Sweep told) may w v past o (moment_of s (noted C op.Sweep told) w v) refl to.cycle to.opened.cycle k
   sweep-by traced (sweep_of freed) may v (marked o) a to k =
@@ -107,7 +110,7 @@ module _ (s : Linkage) (w : Stands s) (past : List Moment) (number line : ℕ) (
 
   -- a restore, which is a step
   restore-by : (h : HNum) (told : Told) → MayCome s (noted C (op.Restore h) told) → (v : Stands (After C (op.Restore h) told)) → (x : Stand)
-      → MayRestoreNow x s.managed.managed h.0 cites → Kept C (op.Restore h) told (stand_after x number (op.Restore h) reply told) → Journey past s w x
+      → May x (op.Restore h) told → Kept C (op.Restore h) told (stand_after x number (op.Restore h) reply told) → Journey past s w x
       → Next C (op.Restore h) told v (stand_after x number (op.Restore h) reply told)
   restore-by h told may v (restoring o answers) a to k = behind-next s (noted C (op.Restore h) told) may w v past o (moment_of s (noted C (op.Restore h) told) w v) to.cycle to.opened.cycle k
   restore-by h told may v idle a to k = absurd a
@@ -147,7 +150,7 @@ module _ (s : Linkage) (w : Stands s) (past : List Moment) (number line : ℕ) (
 
   -- the driver's entries that are no steps
   contract-by : (c : Cycle) (comps : List (List ℕ)) (heavy : List ℕ) (xrefs : List (ℕ × ℕ)) (v : Stands (After C (op.Contract c) (contraction_of comps heavy xrefs)))
-      → state_of (After C (op.Contract c) (contraction_of comps heavy xrefs)) v ≡ state_of s w → (x : Stand) → MayContractNow x c.0 cites
+      → state_of (After C (op.Contract c) (contraction_of comps heavy xrefs)) v ≡ state_of s w → (x : Stand) → May x (op.Contract c) (contraction_of comps heavy xrefs)
       → Journey past s w x → Rest C (op.Contract c) (contraction_of comps heavy xrefs) v (stand_after x number (op.Contract c) reply (contraction_of comps heavy xrefs))
   contract-by c comps heavy xrefs v same (snapped o) a k = way-rests s (After C (op.Contract c) (contraction_of comps heavy xrefs)) w v past o same k
   contract-by c comps heavy xrefs v same idle a k = absurd a
@@ -158,7 +161,7 @@ module _ (s : Linkage) (w : Stands s) (past : List Moment) (number line : ℕ) (
   contract-by c comps heavy xrefs v same (restored o answers clear) a k = absurd a
 
   mirror-by : (c : Cycle) (told : Told) (v : Stands (After C (op.Mirror c) told)) → state_of (After C (op.Mirror c) told) v ≡ state_of s w → (x : Stand)
-      → MayMirrorNow x s.managed.managed s.peer.peers.issued c.0 cites told → Journey past s w x → Rest C (op.Mirror c) told v (stand_after x number (op.Mirror c) reply told)
+      → May x (op.Mirror c) told → Journey past s w x → Rest C (op.Mirror c) told v (stand_after x number (op.Mirror c) reply told)
   mirror-by c told v same (contracted o comps heavy xrefs) a k = way-rests s (After C (op.Mirror c) told) w v past o same k
   mirror-by c told v same idle a k = absurd a
   mirror-by c told v same (snapped o) a k = absurd a
@@ -168,7 +171,7 @@ module _ (s : Linkage) (w : Stands s) (past : List Moment) (number line : ℕ) (
   mirror-by c told v same (restored o answers clear) a k = absurd a
 
   weaken-by : (h : HNum) (told : Told) (v : Stands (After C (op.Weaken h) told)) → state_of (After C (op.Weaken h) told) v ≡ state_of s w → (x : Stand)
-      → MayWeakenNow x s.managed.managed h.0 cites → Journey past s w x → Rest C (op.Weaken h) told v (stand_after x number (op.Weaken h) reply told)
+      → May x (op.Weaken h) told → Journey past s w x → Rest C (op.Weaken h) told v (stand_after x number (op.Weaken h) reply told)
   weaken-by h told v same (weakening o count seen sw) a k = way-rests s (After C (op.Weaken h) told) w v past o same k
   weaken-by h told v same idle a k = absurd a
   weaken-by h told v same (snapped o) a k = absurd a
@@ -178,7 +181,7 @@ module _ (s : Linkage) (w : Stands s) (past : List Moment) (number line : ℕ) (
   weaken-by h told v same (restored o answers clear) a k = absurd a
 
   clear-by : (c : Cycle) (told : Told) → MayCome s (noted C (op.Clear c) told) → (v : Stands (After C (op.Clear c) told)) → (x : Stand)
-      → MayClearNow x (length (candidates_of s.managed.managed)) c.0 cites → Kept C (op.Clear c) told (stand_after x number (op.Clear c) reply told) → Journey past s w x
+      → May x (op.Clear c) told → Kept C (op.Clear c) told (stand_after x number (op.Clear c) reply told) → Journey past s w x
       → Rest C (op.Clear c) told v (stand_after x number (op.Clear c) reply told)
   clear-by c told may v (restoring o answers) a to k = behind-rests s (noted C (op.Clear c) told) may w v past o to.cycle to.opened.cycle k
   clear-by c told may v idle a to k = absurd a
@@ -233,7 +236,7 @@ module _ (s : Linkage) (w : Stands s) (past : List Moment) (number line : ℕ) (
   journey-rests C (op.Abandon c) told may v j same k = (let f : true ≡ false = j in cc)
 
   -- at a resolution
-  complete-by : (more : List Moment) (n : ℕ) (alive : List Answer) (freed : List ℕ) (x : Stand) → MayResolveNow x n cites (resolution_of alive freed)
+  complete-by : (more : List Moment) (n : ℕ) (alive : List Answer) (freed : List ℕ) (x : Stand) → May x (op.Resolve record { 0 = n }) (resolution_of alive freed)
       → MayResolve s.managed n alive freed → DriverInvariant s.managed s.peer x → Journey past s w x → IsCompleteCycle (past ++ more) (length past) n freed
   complete-by more n alive freed (restored o answers clear) a p kept k =
       let same_cycle : p.cycle ≡ kept.cycle = one_cycle s.managed.managed p.cycle kept.cycle p.open_cycle.0 kept.opened.cycle in

@@ -8,15 +8,14 @@ use Rattle.joint_machine.specs.declared.names.PhaseWord.{PhaseWord}
 use Rattle.joint_machine.specs.declared.events.Op.TheVariants as op
 use Rattle.joint_machine.specs.declared.events.Reply.{Reply}
 use Rattle.joint_machine.specs.Components.{End, mirror_edges}
-use Rattle.joint_machine.specs.Control.{Doing, OpenSnap, Stand, idle, snapped, contracted, weakening, marked, restoring, restored, carried_edges, stand_after, IsCandidateHandle, MaySnap}
-use Rattle.joint_machine.specs.Control.{MayContractNow, MayMirrorNow, MayWeakenNow, MayResolveNow, MayAbandonNow}
+use Rattle.joint_machine.specs.Control.{Doing, OpenSnap, Stand, idle, snapped, contracted, weakening, marked, restoring, restored, carried_edges, stand_after, IsCandidateHandle, DriverAllows}
 use Rattle.joint_machine.specs.Cycles.{IsSnapshot, IsAnsweredAlive, IsResolution, IsDeadContraction}
 use Rattle.joint_machine.specs.Heaps.{numbered_at, numbered_set}
 use Rattle.joint_machine.specs.Managed.{Managed, OpenCycle, Holds, with_snapshot as snapped_state, resolved as resolved_state, abandoned as abandoned_state}
 use Rattle.joint_machine.specs.ManagedReplay.{ManagedReplay, MayContract, MayResolve, without_twins}
 use Rattle.joint_machine.specs.Peers.{strong, weak}
 use Rattle.joint_machine.specs.PeerReplay.{PeerReplay, Mirror, mirrored, with_weakened, MayWeaken, Refers}
-use Rattle.joint_machine.specs.Told.{Told, contraction_of, references_of, resolution_of, Answer, handles_given}
+use Rattle.joint_machine.specs.Told.{Told, snap_of, contraction_of, references_of, resolution_of, Answer, handles_given}
 use Rattle.joint_laws.specs.ManagedInvariants.{ReplayInvariant}
 use Rattle.joint_laws.specs.PeerInvariants.{PeerInvariant}
 use Rattle.joint_laws.specs.LinkedInvariants.{IsBeforeMirror, CallersInvariant, hands}
@@ -37,29 +36,30 @@ pub one_cycle : (s : Managed) (c d : OpenCycle) → s.cycle ≡ Some c → s.cyc
 one_cycle s c d e f = same_Some c d (sym e ∙ f)
 
 -- the managed side's events
-pub kept-snap : (r : ManagedReplay) (s : PeerReplay) (ds : List Doing) (d : Stand) (n number : ℕ) (freed candidates dead : List ℕ) (cites : Option ℕ)
-    → BothInvariants r s ds d → MaySnap d cites → IsSnapshot r.managed n freed candidates dead
+pub kept-snap : (r : ManagedReplay) (s : PeerReplay) (ds : List Doing) (d : Stand) (n number : ℕ) (freed candidates dead : List ℕ) (reply : Reply) (cites : Option ℕ)
+    → BothInvariants r s ds d → DriverAllows d r.managed s.peers.issued (op.Snap record { 0 = n }) reply cites (snap_of freed candidates dead) → IsSnapshot r.managed n freed candidates dead
     → ReplayInvariant (record r { managed = snapped_state r.managed freed candidates dead; contracted = false })
     → BothInvariants (record r { managed = snapped_state r.managed freed candidates dead; contracted = false }) s ds (snapped record { cycle = n; snap = number })
-kept-snap r s ds idle n number freed candidates dead cites k w p m = record {
+kept-snap r s ds idle n number freed candidates dead reply cites k w p m = record {
   managed = m;
   peer = k.peer;
   owners = owners_snapped r s n freed candidates dead k.managed k.owners p;
   callers = callers_snapped r s n freed candidates dead k.managed k.owners p ds k.callers;
   driver = driver_snapped r s n freed candidates dead k.managed k.owners p number k.driver;
 }
-kept-snap r s ds (snapped o) n number freed candidates dead cites k w p m = absurd w
-kept-snap r s ds (contracted o comps heavy xrefs) n number freed candidates dead cites k w p m = absurd w
-kept-snap r s ds (weakening o count seen sw) n number freed candidates dead cites k w p m = absurd w
-kept-snap r s ds (marked o) n number freed candidates dead cites k w p m = absurd w
-kept-snap r s ds (restoring o answers) n number freed candidates dead cites k w p m = absurd w
-kept-snap r s ds (restored o answers clear) n number freed candidates dead cites k w p m = absurd w
+kept-snap r s ds (snapped o) n number freed candidates dead reply cites k w p m = absurd w
+kept-snap r s ds (contracted o comps heavy xrefs) n number freed candidates dead reply cites k w p m = absurd w
+kept-snap r s ds (weakening o count seen sw) n number freed candidates dead reply cites k w p m = absurd w
+kept-snap r s ds (marked o) n number freed candidates dead reply cites k w p m = absurd w
+kept-snap r s ds (restoring o answers) n number freed candidates dead reply cites k w p m = absurd w
+kept-snap r s ds (restored o answers clear) n number freed candidates dead reply cites k w p m = absurd w
 
 OwnersAlike-contracted : (r : ManagedReplay) → OwnersAlike r (record r { contracted = true })
 OwnersAlike-contracted r = record { on = λ m h q. q; back = λ m h q. q; registry = refl; adopted = refl; cycle = refl }
 
 pub kept-contract : (r : ManagedReplay) (s : PeerReplay) (ds : List Doing) (d : Stand) (n number : ℕ) (c : Cycle) (reply : Reply) (comps : List (List ℕ))
-    (heavy : List ℕ) (xrefs : List (ℕ × ℕ)) (cites : Option ℕ) → BothInvariants r s ds d → MayContractNow d n cites → MayContract r n comps heavy xrefs
+    (heavy : List ℕ) (xrefs : List (ℕ × ℕ)) (cites : Option ℕ) → BothInvariants r s ds d
+    → DriverAllows d r.managed s.peers.issued (op.Contract record { 0 = n }) reply cites (contraction_of comps heavy xrefs) → MayContract r n comps heavy xrefs
     → ReplayInvariant (record r { contracted = true }) → BothInvariants (record r { contracted = true }) s ds (stand_after d number (op.Contract c) reply (contraction_of comps heavy xrefs))
 kept-contract r s ds (snapped o) n number c reply comps heavy xrefs cites k w p m =
     let t : ManagedReplay = record r { contracted = true } in
@@ -80,11 +80,11 @@ kept-contract r s ds (marked o) n number c reply comps heavy xrefs cites k w p m
 kept-contract r s ds (restoring o answers) n number c reply comps heavy xrefs cites k w p m = absurd w
 kept-contract r s ds (restored o answers clear) n number c reply comps heavy xrefs cites k w p m = absurd w
 
-pub kept-resolve : (r : ManagedReplay) (s : PeerReplay) (ds : List Doing) (d : Stand) (n : ℕ) (alive : List Answer) (freed : List ℕ) (cites : Option ℕ)
-    → BothInvariants r s ds d → MayResolveNow d n cites (resolution_of alive freed) → MayResolve r n alive freed
+pub kept-resolve : (r : ManagedReplay) (s : PeerReplay) (ds : List Doing) (d : Stand) (n : ℕ) (alive : List Answer) (freed : List ℕ) (reply : Reply) (cites : Option ℕ)
+    → BothInvariants r s ds d → DriverAllows d r.managed s.peers.issued (op.Resolve record { 0 = n }) reply cites (resolution_of alive freed) → MayResolve r n alive freed
     → ReplayInvariant (record r { managed = resolved_state r.managed alive freed; registry = without_twins r.registry freed; adopted = r.adopted ++ handles_given alive })
     → BothInvariants (record r { managed = resolved_state r.managed alive freed; registry = without_twins r.registry freed; adopted = r.adopted ++ handles_given alive }) s ds idle
-kept-resolve r s ds (restored o answers clear) n alive freed cites k w p m =
+kept-resolve r s ds (restored o answers clear) n alive freed reply cites k w p m =
     let same_cycle : p.cycle ≡ k.driver.cycle = one_cycle r.managed p.cycle k.driver.cycle p.open_cycle.0 k.driver.opened.cycle in
     let exact : IsResolution r.managed k.driver.cycle.dead (IsAnsweredAlive k.driver.cycle.candidates answers) freed =
     subst (λ (z : OpenCycle). IsResolution r.managed z.dead (IsAnsweredAlive z.candidates answers) freed) same_cycle
@@ -97,12 +97,12 @@ kept-resolve r s ds (restored o answers clear) n alive freed cites k w p m =
       callers = callers_resolved r s o answers k.managed k.peer k.owners k.driver freed exact ds k.callers;
       driver = driver_resolved r s o answers k.managed k.peer k.owners k.driver freed exact;
     })
-kept-resolve r s ds idle n alive freed cites k w p m = absurd w
-kept-resolve r s ds (snapped o) n alive freed cites k w p m = absurd w
-kept-resolve r s ds (contracted o comps heavy xrefs) n alive freed cites k w p m = absurd w
-kept-resolve r s ds (weakening o count seen sw) n alive freed cites k w p m = absurd w
-kept-resolve r s ds (marked o) n alive freed cites k w p m = absurd w
-kept-resolve r s ds (restoring o answers) n alive freed cites k w p m = absurd w
+kept-resolve r s ds idle n alive freed reply cites k w p m = absurd w
+kept-resolve r s ds (snapped o) n alive freed reply cites k w p m = absurd w
+kept-resolve r s ds (contracted o comps heavy xrefs) n alive freed reply cites k w p m = absurd w
+kept-resolve r s ds (weakening o count seen sw) n alive freed reply cites k w p m = absurd w
+kept-resolve r s ds (marked o) n alive freed reply cites k w p m = absurd w
+kept-resolve r s ds (restoring o answers) n alive freed reply cites k w p m = absurd w
 
 abandon-before : (r : ManagedReplay) (s : PeerReplay) (ds : List Doing) (d : Stand) (o : OpenSnap) → hands d ds ≡ ds → BothInvariants r s ds d → IsBeforeMirror r s o
     → ReplayInvariant (record r { managed = abandoned_state r.managed }) → BothInvariants (record r { managed = abandoned_state r.managed }) s ds idle
@@ -114,15 +114,16 @@ abandon-before r s ds d o none k b m = record {
   driver = driver_abandoned r s o k.owners b;
 }
 
-pub kept-abandon : (r : ManagedReplay) (s : PeerReplay) (ds : List Doing) (d : Stand) (n : ℕ) (cites : Option ℕ) → BothInvariants r s ds d → MayAbandonNow d n cites
+pub kept-abandon : (r : ManagedReplay) (s : PeerReplay) (ds : List Doing) (d : Stand) (n : ℕ) (reply : Reply) (cites : Option ℕ) (told : Told)
+    → BothInvariants r s ds d → DriverAllows d r.managed s.peers.issued (op.Abandon record { 0 = n }) reply cites told
     → ReplayInvariant (record r { managed = abandoned_state r.managed }) → BothInvariants (record r { managed = abandoned_state r.managed }) s ds idle
-kept-abandon r s ds (snapped o) n cites k w m = abandon-before r s ds (snapped o) o refl k k.driver m
-kept-abandon r s ds (contracted o comps heavy xrefs) n cites k w m = abandon-before r s ds (contracted o comps heavy xrefs) o refl k k.driver.before m
-kept-abandon r s ds idle n cites k w m = absurd w
-kept-abandon r s ds (weakening o count seen sw) n cites k w m = absurd w
-kept-abandon r s ds (marked o) n cites k w m = absurd w
-kept-abandon r s ds (restoring o answers) n cites k w m = absurd w
-kept-abandon r s ds (restored o answers clear) n cites k w m = absurd w
+kept-abandon r s ds (snapped o) n reply cites told k w m = abandon-before r s ds (snapped o) o refl k k.driver m
+kept-abandon r s ds (contracted o comps heavy xrefs) n reply cites told k w m = abandon-before r s ds (contracted o comps heavy xrefs) o refl k k.driver.before m
+kept-abandon r s ds idle n reply cites told k w m = absurd w
+kept-abandon r s ds (weakening o count seen sw) n reply cites told k w m = absurd w
+kept-abandon r s ds (marked o) n reply cites told k w m = absurd w
+kept-abandon r s ds (restoring o answers) n reply cites told k w m = absurd w
+kept-abandon r s ds (restored o answers clear) n reply cites told k w m = absurd w
 
 pub kept-refused : (r : ManagedReplay) (s : PeerReplay) (ds : List Doing) (d : Stand) (number : ℕ) (x : PhaseWord) (reply : Reply) (told : Told)
     → BothInvariants r s ds d → BothInvariants r s ds (stand_after d number (op.Refused x) reply told)
@@ -135,20 +136,20 @@ kept-refused r s ds (restoring o answers) number x reply told k = k
 kept-refused r s ds (restored o answers clear) number x reply told k = k
 
 -- a mirror's references are safe
-pub safe-mirror : (r : ManagedReplay) (s : PeerReplay) (ds : List Doing) (d : Stand) (n : ℕ) (c : Cycle) (cites : Option ℕ) (told : Told)
-    → BothInvariants r s ds d → MayMirrorNow d r.managed s.peers.issued n cites told → MirrorsSafely s (op.Mirror c) told
-safe-mirror r s ds (contracted o comps heavy xrefs) n c cites
+pub safe-mirror : (r : ManagedReplay) (s : PeerReplay) (ds : List Doing) (d : Stand) (c : Cycle) (reply : Reply) (cites : Option ℕ) (told : Told)
+    → BothInvariants r s ds d → DriverAllows d r.managed s.peers.issued (op.Mirror c) reply cites told → MirrorsSafely s (op.Mirror c) told
+safe-mirror r s ds (contracted o comps heavy xrefs) c reply cites
     (references_of refs) k w = λ p q x. carried-safe r s o comps heavy xrefs k.managed k.peer k.owners k.driver p q (subst (λ z. Refers z p q) w.2 x)
-safe-mirror r s ds (contracted o comps heavy xrefs) n c cites _ k w = absurd w
-safe-mirror r s ds idle n c cites told k w = absurd w
-safe-mirror r s ds (snapped o) n c cites told k w = absurd w
-safe-mirror r s ds (weakening o count seen sw) n c cites told k w = absurd w
-safe-mirror r s ds (marked o) n c cites told k w = absurd w
-safe-mirror r s ds (restoring o answers) n c cites told k w = absurd w
-safe-mirror r s ds (restored o answers clear) n c cites told k w = absurd w
+safe-mirror r s ds (contracted o comps heavy xrefs) c reply cites _ k w = absurd w
+safe-mirror r s ds idle c reply cites told k w = absurd w
+safe-mirror r s ds (snapped o) c reply cites told k w = absurd w
+safe-mirror r s ds (weakening o count seen sw) c reply cites told k w = absurd w
+safe-mirror r s ds (marked o) c reply cites told k w = absurd w
+safe-mirror r s ds (restoring o answers) c reply cites told k w = absurd w
+safe-mirror r s ds (restored o answers clear) c reply cites told k w = absurd w
 
 pub kept-mirrored : (r : ManagedReplay) (s : PeerReplay) (ds : List Doing) (d : Stand) (n number : ℕ) (c : Cycle) (reply : Reply) (cites : Option ℕ) (refs : List (End × End))
-    → BothInvariants r s ds d → MayMirrorNow d r.managed s.peers.issued n cites (references_of refs)
+    → BothInvariants r s ds d → DriverAllows d r.managed s.peers.issued (op.Mirror record { 0 = n }) reply cites (references_of refs)
     → PeerInvariant (mirrored s n cites refs) → BothInvariants r (mirrored s n cites refs) ds (stand_after d number (op.Mirror c) reply (references_of refs))
 kept-mirrored r s ds (contracted o comps heavy xrefs) n number c reply cites refs k w m =
     subst (λ z. BothInvariants r (mirrored s n cites z) ds (weakening o 0 false false)) (sym w.2) (subst (λ z. BothInvariants r (mirrored s n z edges) ds (weakening o 0 false false)) (sym w.1)
@@ -184,7 +185,7 @@ pub turn : (r : ManagedReplay) (c : OpenCycle) (i h : ℕ) → ReplayInvariant r
 turn r c i h k e w = (w.0, subst (λ z. slice_get z i ≡ Some w.0) (candidates_of-open r.managed c e) w.1, holds-handle_of r.managed w.0 h k.managed.places w.2)
 
 pub kept-weaken : (r : ManagedReplay) (s : PeerReplay) (ds : List Doing) (d : Stand) (number : ℕ) (h : HNum) (reply : Reply) (told : Told) (cites : Option ℕ)
-    → BothInvariants r s ds d → MayWeakenNow d r.managed h.0 cites → MayWeaken s h.0 cites
+    → BothInvariants r s ds d → DriverAllows d r.managed s.peers.issued (op.Weaken h) reply cites told → MayWeaken s h.0 cites
     → PeerInvariant (record s { table = numbered_set s.table h.0 (Some record { strength = weak; cleared = false }); mirror = with_weakened s.mirror h.0 })
     → BothInvariants r (record s { table = numbered_set s.table h.0 (Some record { strength = weak; cleared = false }); mirror = with_weakened s.mirror h.0 }) ds
     (stand_after d number (op.Weaken h) reply told)

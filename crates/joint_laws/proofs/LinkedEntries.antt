@@ -114,14 +114,14 @@ module _ (s : Linkage) (k : Of s) (number line : ℕ) (reply : Reply) (cites : O
   step (M u) (op.Lend v y) told e w x = kept-lend s.managed s.peer ds d u number line k v y (place u v.0) reply w.replies
   step (P u) (op.Lend v y) told e w x = absurd e.0
   step C (op.Lend v y) told e w x = absurd e.0
-  step (M u) (op.Land h y) told e w x = kept-land s.managed s.peer ds d u number line k y.0 h.0 (land-hand (doing_in ds u) line h y cites x)
+  step (M u) (op.Land h y) told e w x = kept-land s.managed s.peer ds d u number line k y.0 h.0 (land-hand (doing_in ds u) (M u) line h y cites x)
   step (P u) (op.Land h y) told e w x = absurd e.0
   step C (op.Land h y) told e w x = absurd e.0
   step (M u) (op.Grip y) told e w x = kept-grip s.managed s.peer ds d u number line k y reply w.replies
   step (P u) (op.Grip y) told e w x = absurd e.0
   step C (op.Grip y) told e w x = absurd e.0
   step (M u) (op.Meet v sort n p h) nothing e w x =
-      let hand = meet-hand (doing_in ds u) line v p h sort n cites x in
+      let hand = meet-hand (doing_in ds u) (M u) line v p h sort n cites x in
       let a = met_by s.managed.managed (place u v.0) h.0 sort n (registered s.managed.registry p.0) s.managed.managed.cycle in
       kept-meet s.managed s.peer ds d u number line k v p h sort n (place u v.0) hand.0 hand.1 w.allowed reply (w.replies ∙ meet_by-reply s.managed p.0 h.0 a.state a.reply)
   step (M u) (op.Meet v sort n p h) told e w x = absurd w.allowed
@@ -132,10 +132,10 @@ module _ (s : Linkage) (k : Of s) (number line : ℕ) (reply : Reply) (cites : O
       (w.replies ∙ give_by-reply s.managed (slot s.managed.managed.heap.vars (place u v.0)) (given_up s.managed.managed (place u v.0)))
   step (P u) (op.Give v) told e w x = absurd e.0
   step C (op.Give v) told e w x = absurd e.0
-  step (M u) (op.Release h) told e w x = kept-release s.managed s.peer ds d u number line k h.0 (release-hand (doing_in ds u) line h.0 cites x)
+  step (M u) (op.Release h) told e w x = kept-release s.managed s.peer ds d u number line k h.0 (release-hand (doing_in ds u) (M u) line h cites x)
   step (P u) (op.Release h) told e w x = absurd e
   step C (op.Release h) told e w x = absurd e
-  step C (op.Snap n) (snap_of freed candidates dead) e w x = kept-snap s.managed s.peer ds d n.0 number freed candidates dead cites k x w.allowed
+  step C (op.Snap n) (snap_of freed candidates dead) e w x = kept-snap s.managed s.peer ds d n.0 number freed candidates dead reply cites k x w.allowed
       (ReplayInvariant-step s.managed C (op.Snap n) (snap_of freed candidates dead) k.managed w.allowed)
   step C (op.Snap n) told e w x = absurd w.allowed
   step (M u) (op.Snap n) told e w x = absurd e
@@ -146,7 +146,7 @@ module _ (s : Linkage) (k : Of s) (number line : ℕ) (reply : Reply) (cites : O
   step (M u) (op.Contract n) told e w x = absurd e
   step (P u) (op.Contract n) told e w x = absurd e
   step C (op.Mirror n) (references_of refs) e w x = kept-mirrored s.managed s.peer ds d n.0 number n reply cites refs k x
-      (PeerInvariant-step s.peer C (op.Mirror n) cites (references_of refs) k.peer w.allowed (safe-mirror s.managed s.peer ds d n.0 n cites (references_of refs) k x))
+      (PeerInvariant-step s.peer C (op.Mirror n) cites (references_of refs) k.peer w.allowed (safe-mirror s.managed s.peer ds d n reply cites (references_of refs) k x))
   step C (op.Mirror n) told e w x = absurd w.allowed
   step (M u) (op.Mirror n) told e w x = absurd e
   step (P u) (op.Mirror n) told e w x = absurd e
@@ -168,12 +168,12 @@ module _ (s : Linkage) (k : Of s) (number line : ℕ) (reply : Reply) (cites : O
   step C (op.Clear n) told e w x = kept-clear s.managed s.peer ds d n.0 number n reply told cites k x (cleared-kept s.peer k.peer)
   step (M u) (op.Clear n) told e w x = absurd e
   step (P u) (op.Clear n) told e w x = absurd e
-  step C (op.Resolve n) (resolution_of alive freed) e w x = kept-resolve s.managed s.peer ds d n.0 alive freed cites k x w.allowed
+  step C (op.Resolve n) (resolution_of alive freed) e w x = kept-resolve s.managed s.peer ds d n.0 alive freed reply cites k x w.allowed
       (ReplayInvariant-step s.managed C (op.Resolve n) (resolution_of alive freed) k.managed w.allowed)
   step C (op.Resolve n) told e w x = absurd w.allowed
   step (M u) (op.Resolve n) told e w x = absurd e
   step (P u) (op.Resolve n) told e w x = absurd e
-  step C (op.Abandon n) nothing e w x = kept-abandon s.managed s.peer ds d n.0 cites k x (ReplayInvariant-step s.managed C (op.Abandon n) nothing k.managed w.allowed)
+  step C (op.Abandon n) nothing e w x = kept-abandon s.managed s.peer ds d n.0 reply cites nothing k x (ReplayInvariant-step s.managed C (op.Abandon n) nothing k.managed w.allowed)
   step C (op.Abandon n) told e w x = absurd w.allowed
   step (M u) (op.Abandon n) told e w x = absurd e
   step (P u) (op.Abandon n) told e w x = absurd e

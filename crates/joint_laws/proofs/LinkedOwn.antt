@@ -9,8 +9,7 @@ use Rattle.joint_machine.specs.declared.names.Marking.{Marking as MarkingNumber}
 use Rattle.joint_machine.specs.declared.events.Op.TheVariants as op
 use Rattle.joint_machine.specs.declared.events.Reply.{Reply}
 use Rattle.joint_machine.specs.declared.events.Reply.TheVariants as says
-use Rattle.joint_machine.specs.Control.{Doing, OpenSnap, Stand, idle, snapped, contracted, weakening, marked, restoring, restored, stand_after, answer_in, IsCandidateHandle, MayBeginNow, MaySweepNow}
-use Rattle.joint_machine.specs.Control.{MayRestoreNow, MayClearNow}
+use Rattle.joint_machine.specs.Control.{Doing, OpenSnap, Stand, idle, snapped, contracted, weakening, marked, restoring, restored, stand_after, answer_in, IsCandidateHandle, DriverAllows}
 use Rattle.joint_machine.specs.Managed.{candidates_of, Holds}
 use Rattle.joint_machine.specs.Heaps.{Answered, answer, numbered_at}
 use Rattle.joint_machine.specs.ManagedReplay.{ManagedReplay}
@@ -69,7 +68,7 @@ none-open s None j e = refl
 none-open s (Some mk) j e = (let f : ⊥ = cc in absurd f)
 
 pub kept-own_begin : (r : ManagedReplay) (s : PeerReplay) (ds : List Doing) (d : Stand) (number : ℕ) (reply : Reply) (told : Told) (cites : Option ℕ)
-    → BothInvariants r s ds d → MayBeginNow d (length (candidates_of r.managed)) reply cites → reply ≡ (begun s s.marking C).reply
+    → BothInvariants r s ds d → DriverAllows d r.managed s.peers.issued op.Begin reply cites told → reply ≡ (begun s s.marking C).reply
     → PeerInvariant (begun s s.marking C).state → BothInvariants r (begun s s.marking C).state ds (stand_after d number op.Begin reply told)
 kept-own_begin r s ds (weakening o count seen sw) number (says.Mark j) told cites k w e m = own_begin r s ds o count seen sw s.marking k refl w.0 (none-open s s.marking j e) m
 kept-own_begin r s ds (weakening o count seen sw) number _ told cites k w e m = absurd w
@@ -88,7 +87,7 @@ driver-case s t (Some mk) (sweep_of freed) e w f = (mk, freed, e, w.1, f)
 driver-case s t (Some mk) _ e w f = absurd w
 
 pub kept-own_sweep : (r : ManagedReplay) (s t : PeerReplay) (ds : List Doing) (d : Stand) (number : ℕ) (reply : Reply) (told seen_told : Told) (cites : Option ℕ)
-    → BothInvariants r s ds d → MaySweepNow d (length (candidates_of r.managed)) cites → SweepAllows s s.marking C told
+    → BothInvariants r s ds d → DriverAllows d r.managed s.peers.issued op.Sweep reply cites told → SweepAllows s s.marking C told
     → t ≡ (swept s s.marking C (swept_told told)).state → BothInvariants r t ds (stand_after d number op.Sweep reply seen_told)
 kept-own_sweep r s t ds (weakening o count seen sw) number reply told seen_told cites k w a f =
     let c = driver-case s t s.marking told refl a f in
@@ -277,7 +276,7 @@ restored-at r s ds o answers h x row reply k w e f g m = subst (λ z. BothInvari
     fresh y p q c l n = renewed-at r s ds o answers h k w y (tabled y q) p l n
 
 pub kept-restore : (r : ManagedReplay) (s : PeerReplay) (ds : List Doing) (d : Stand) (number : ℕ) (h : HNum) (reply : Reply) (told : Told) (cites : Option ℕ)
-    → BothInvariants r s ds d → MayRestoreNow d r.managed h.0 cites → MayRestore s h.0 → reply ≡ (restored_by s h.0 (row_of s h.0)).reply
+    → BothInvariants r s ds d → DriverAllows d r.managed s.peers.issued (op.Restore h) reply cites told → MayRestore s h.0 → reply ≡ (restored_by s h.0 (row_of s h.0)).reply
     → PeerInvariant (restored_by s h.0 (row_of s h.0)).state → BothInvariants r (restored_by s h.0 (row_of s h.0)).state ds (stand_after d number (op.Restore h) reply told)
 kept-restore r s ds (restoring o answers) number h reply told cites k w p e m = restored-at r s ds o answers h.0 (row_of s h.0) p.row reply k w.1 refl p.tabled e m
 kept-restore r s ds idle number h reply told cites k w p e m = absurd w
@@ -289,7 +288,7 @@ kept-restore r s ds (restored o answers clear) number h reply told cites k w p e
 
 -- the references go
 pub kept-clear : (r : ManagedReplay) (s : PeerReplay) (ds : List Doing) (d : Stand) (n number : ℕ) (c : Cycle) (reply : Reply) (told : Told) (cites : Option ℕ)
-    → BothInvariants r s ds d → MayClearNow d (length (candidates_of r.managed)) n cites → PeerInvariant (record s { refs = []; mirror = None })
+    → BothInvariants r s ds d → DriverAllows d r.managed s.peers.issued (op.Clear record { 0 = n }) reply cites told → PeerInvariant (record s { refs = []; mirror = None })
     → BothInvariants r (record s { refs = []; mirror = None }) ds (stand_after d number (op.Clear c) reply told)
 kept-clear r s ds (restoring o answers) n number c reply told cites k w m =
     let t : PeerReplay = record s { refs = []; mirror = None } in

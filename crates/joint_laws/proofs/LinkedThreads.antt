@@ -10,7 +10,7 @@ use Rattle.joint_machine.specs.declared.names.HNum.{HNum}
 use Rattle.joint_machine.specs.declared.lines.Act.{Act}
 use Rattle.joint_machine.specs.declared.events.Op.TheVariants as op
 use Rattle.joint_machine.specs.declared.events.Reply.TheVariants as says
-use Rattle.joint_machine.specs.Control.{Doing, free, made, lent, gripped, given, met, Stand, MayAdopt, MayLand, MayMeet, MayRelease}
+use Rattle.joint_machine.specs.Control.{Doing, free, made, lent, gripped, given, met, Stand, ThreadAllows}
 use Rattle.joint_machine.specs.Heaps.{answer, next_number, numbered_at}
 use Rattle.joint_machine.specs.Managed.{Managed, managed_line}
 use Rattle.joint_machine.specs.ManagedReplay.{ManagedReplay}
@@ -28,7 +28,7 @@ use Rattle.joint_laws.proofs.PeerQuiet.{table-issued}
 use Rattle.joint_laws.proofs.LinkedQuiet.{BothInvariants, kept-alike}
 
 -- what a thread has by what it may do next
-pub adopt-hand : (d : Doing) (t : Thread) (l : ℕ) (v : Var) (kind : Kind) (n : ℕ) (p : PNum) (h : HNum) (cites : Option ℕ) → MayAdopt d t l (op.Adopt v kind n p h) cites → HasMadePair d h.0 p.0
+pub adopt-hand : (d : Doing) (t : Thread) (l : ℕ) (v : Var) (kind : Kind) (n : ℕ) (p : PNum) (h : HNum) (cites : Option ℕ) → ThreadAllows d t l (op.Adopt v kind n p h) cites → HasMadePair d h.0 p.0
 adopt-hand (made n line p' h' sort f) t l v kind k p h cites w = (sym w.3, sym w.2)
 adopt-hand free t l v kind k p h cites w = absurd w
 adopt-hand (lent n line h' x) t l v kind k p h cites w = absurd w
@@ -36,29 +36,30 @@ adopt-hand (gripped n line p' h' sort f) t l v kind k p h cites w = absurd w
 adopt-hand (given n line h') t l v kind k p h cites w = absurd w
 adopt-hand (met n line h') t l v kind k p h cites w = absurd w
 
-pub land-hand : (d : Doing) (l : ℕ) (h : HNum) (x : StaticNo) (cites : Option ℕ) → MayLand d l (op.Land h x) cites → HasLent d h.0
-land-hand (lent n line h' x') l h x cites w = sym w.2
-land-hand free l h x cites w = absurd w
-land-hand (made n line p' h' sort f) l h x cites w = absurd w
-land-hand (gripped n line p' h' sort f) l h x cites w = absurd w
-land-hand (given n line h') l h x cites w = absurd w
-land-hand (met n line h') l h x cites w = absurd w
+pub land-hand : (d : Doing) (t : Thread) (l : ℕ) (h : HNum) (x : StaticNo) (cites : Option ℕ) → ThreadAllows d t l (op.Land h x) cites → HasLent d h.0
+land-hand (lent n line h' x') t l h x cites w = sym w.2
+land-hand free t l h x cites w = absurd w
+land-hand (made n line p' h' sort f) t l h x cites w = absurd w
+land-hand (gripped n line p' h' sort f) t l h x cites w = absurd w
+land-hand (given n line h') t l h x cites w = absurd w
+land-hand (met n line h') t l h x cites w = absurd w
 
-pub meet-hand : (d : Doing) (l : ℕ) (v : Var) (p : PNum) (h : HNum) (sort : Sort) (f : ℕ) (cites : Option ℕ) → MayMeet d l (op.Meet v sort f p h) cites → HasInHand d h.0 × HasPeer d h.0 p.0
-meet-hand (gripped n line p' h' sort' f') l v p h sort f cites w = (sym w.3, (sym w.3, sym w.2))
-meet-hand free l v p h sort f cites w = absurd w
-meet-hand (made n line p' h' sort' f') l v p h sort f cites w = absurd w
-meet-hand (lent n line h' x') l v p h sort f cites w = absurd w
-meet-hand (given n line h') l v p h sort f cites w = absurd w
-meet-hand (met n line h') l v p h sort f cites w = absurd w
+pub meet-hand : (d : Doing) (t : Thread) (l : ℕ) (v : Var) (p : PNum) (h : HNum) (sort : Sort) (f : ℕ) (cites : Option ℕ)
+    → ThreadAllows d t l (op.Meet v sort f p h) cites → HasInHand d h.0 × HasPeer d h.0 p.0
+meet-hand (gripped n line p' h' sort' f') t l v p h sort f cites w = (sym w.3, (sym w.3, sym w.2))
+meet-hand free t l v p h sort f cites w = absurd w
+meet-hand (made n line p' h' sort' f') t l v p h sort f cites w = absurd w
+meet-hand (lent n line h' x') t l v p h sort f cites w = absurd w
+meet-hand (given n line h') t l v p h sort f cites w = absurd w
+meet-hand (met n line h') t l v p h sort f cites w = absurd w
 
-pub release-hand : (d : Doing) (l h : ℕ) (cites : Option ℕ) → MayRelease d l h cites → HasInHand d h
-release-hand (given n line h') l h cites w = sym w.2
-release-hand (met n line h') l h cites w = sym w.2
-release-hand free l h cites w = absurd w
-release-hand (made n line p' h' sort' f') l h cites w = absurd w
-release-hand (lent n line h' x') l h cites w = absurd w
-release-hand (gripped n line p' h' sort f) l h cites w = absurd w
+pub release-hand : (d : Doing) (t : Thread) (l : ℕ) (h : HNum) (cites : Option ℕ) → ThreadAllows d t l (op.Release h) cites → HasInHand d h.0
+release-hand (given n line h') t l h cites w = sym w.2
+release-hand (met n line h') t l h cites w = sym w.2
+release-hand free t l h cites w = absurd w
+release-hand (made n line p' h' sort' f') t l h cites w = absurd w
+release-hand (lent n line h' x') t l h cites w = absurd w
+release-hand (gripped n line p' h' sort f) t l h cites w = absurd w
 
 -- a managed line leaves rows with the same handles
 pub OwnersAlike-line : (r : ManagedReplay) (u : Managed) → ReplayInvariant r → GoesOn r.managed u → HoldsSame r.managed u → OwnersAlike r (record r { managed = u })

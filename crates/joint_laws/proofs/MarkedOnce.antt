@@ -12,7 +12,7 @@ use Rattle.joint_machine.specs.declared.events.Op.{Op}
 use Rattle.joint_machine.specs.declared.events.Op.TheVariants as op
 use Rattle.joint_machine.specs.declared.events.Reply.{Reply}
 use Rattle.joint_machine.specs.declared.events.Reply.TheVariants as says
-use Rattle.joint_machine.specs.Control.{Stand, idle, snapped, contracted, weakening, marked, restoring, restored, CallerAllows, DriverAllows, MayResolveNow, MayBeginNow, control_after, stand_after}
+use Rattle.joint_machine.specs.Control.{Stand, idle, snapped, contracted, weakening, marked, restoring, restored, CallerAllows, DriverAllows, control_after, stand_after}
 use Rattle.joint_machine.specs.Lines.{IsEvent, is_peer_event}
 use Rattle.joint_machine.specs.Linked.{Linkage, MayCome, SideLawful, ManagedLawful, opening_linkage, linkage_after}
 use Rattle.joint_machine.specs.Replaying.{AllMayCome, machine_entries}
@@ -96,9 +96,9 @@ module _ (k n : ℕ) (m : Managed) (i : List Issued) (reply : Reply) (cites : Op
   before-begin (restored o answers clear) told a e = absurd e
 
   -- its reply gives a number
-  begin-number : (st : Stand) (c : ℕ) (r : Reply) (x : Option ℕ) → MayBeginNow st c r x → (j : ℕ) × (r ≡ says.Mark record { 0 = j })
-  begin-number (weakening o count seen sw) c (says.Mark j) x a = (j.0, refl)
-  begin-number _ c r x a = absurd a
+  begin-number : (st : Stand) (r : Reply) (told : Told) → DriverAllows st m i op.Begin r cites told → (j : ℕ) × (r ≡ says.Mark record { 0 = j })
+  begin-number (weakening o count seen sw) (says.Mark j) told a = (j.0, refl)
+  begin-number _ r told a = absurd a
 
   behind-on : (st : Stand) (o : Op) (told : Told) → Allows st o told → IsBehind k st → (o ≡ op.Begin → ⊥) × (IsBehind k (next st o told) ⊎ IsElsewhere k (next st o told))
   behind-on idle o told a e = absurd e
@@ -278,7 +278,7 @@ module _ (noted : List Noted) (may : AllMayCome opening_linkage noted) (i k : �
 
     begins-here : NoBegin p → n.entry.made.caller ≡ C → n.entry.made.op ≡ op.Begin → HasOneBegin noted i (suc p)
     begins-here f c b = let number = begin-number k n.entry.number s.managed.managed s.peer.peers.issued n.entry.made.reply n.entry.made.cites
-        (stand_of s) _ n.entry.made.reply n.entry.made.cites (allows-begin c b) in record {
+        (stand_of s) n.entry.made.reply n.told (allows-begin c b) in record {
           begin = p;
           later = later;
           earlier = omega arith;
@@ -356,7 +356,8 @@ resolves-behind noted may k e w =
     (subst (λ o. CallerAllows (state_at noted e).control (state_at noted e).managed.managed
     (state_at noted e).peer.peers.issued w.entry.entry.made.caller w.entry.entry.made.index o w.entry.entry.made.reply w.entry.entry.made.cites w.entry.told) w.event m.order)
   where
-    stands : (st : Stand) (told : Told) → MayResolveNow st k w.entry.entry.made.cites told → IsBehind k st
+    stands : (st : Stand) (told : Told) → DriverAllows st (state_at noted e).managed.managed (state_at noted e).peer.peers.issued
+        (op.Resolve record { 0 = k }) w.entry.entry.made.reply w.entry.entry.made.cites told → IsBehind k st
     stands (restored o answers clear) (resolution_of alive freed) a = a.0
     stands (restored o answers clear) told a = absurd a
     stands idle told a = absurd a

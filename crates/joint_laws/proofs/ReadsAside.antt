@@ -15,7 +15,7 @@ use Rattle.joint_machine.specs.declared.events.Op.TheVariants as op
 use Rattle.joint_machine.specs.declared.events.Reply.{Reply}
 use Rattle.joint_machine.specs.declared.events.Reply.TheVariants as says
 use Rattle.joint_machine.specs.declared.events.Made.{Made}
-use Rattle.joint_machine.specs.Control.{Doing, free, made, lent, gripped, given, met, Control, CallerAllows, ThreadAllows, DriverAllows, MayStart, IsDone, control_after, doing_after, doing_at}
+use Rattle.joint_machine.specs.Control.{Doing, free, made, lent, gripped, given, met, Control, CallerAllows, ThreadAllows, DriverAllows, IsDone, control_after, doing_after, doing_at}
 use Rattle.joint_machine.specs.Control.{last_line, caller_place, stand_after}
 use Rattle.joint_machine.specs.Heaps.{Answered, answer, slot, is_freed}
 use Rattle.joint_machine.specs.Lines.{is_peer_event, is_read}
@@ -56,29 +56,24 @@ alike-opening = record {
   hands = pairwise-same AreHandsAlike (λ d. inl refl) opening_linkage.control.doing;
 }
 
+-- a line comes where nothing has to follow
+pub line-done : (d : Doing) (t : Thread) (l : ℕ) (a : Act) (cites : Option ℕ) → ThreadAllows d t l (op.Line a) cites → IsDone d
+line-done free t l a cites x = tt
+line-done (made n line p h sort f) t l a cites x = tt
+line-done (lent n line h y) t l a cites x = tt
+line-done (gripped n line p h sort f) t l a cites x = tt
+line-done (given n line h) t l a cites x = absurd x
+line-done (met n line h) t l a cites x = absurd x
+
 -- an operation may start of what an operation that found no memory left behind
-start-done : (d : Doing) (cites : Option ℕ) → IsDone d → cites ≡ None → MayStart d cites
-start-done free cites x e = e
-start-done (made n l p h sort f) cites x e = e
-start-done (lent n l h x) cites y e = e
-start-done (gripped n l p h sort f) cites x e = e
-start-done (given n l h) cites x e = absurd x
-start-done (met n l h) cites x e = absurd x
-
-done-start : (d : Doing) (cites : Option ℕ) → MayStart d cites → IsDone d
-done-start free cites x = tt
-done-start (made n l p h sort f) cites x = tt
-done-start (lent n l h x) cites y = tt
-done-start (gripped n l p h sort f) cites x = tt
-done-start (given n l h) cites x = absurd x
-done-start (met n l h) cites x = absurd x
-
 from-free : (e : Doing) (t : Thread) (l : ℕ) (o : Op) (cites : Option ℕ) → IsDone e → ThreadAllows free t l o cites → ThreadAllows e t l o cites
+from-free (given n line h) t l o cites x a = absurd x
+from-free (met n line h) t l o cites x a = absurd x
 from-free e t l (op.Adopt v kind n p h) cites x a = absurd a
 from-free e t l (op.Land h y) cites x a = absurd a
 from-free e t l (op.Meet v sort f p h) cites x a = absurd a
 from-free e t l (op.Release h) cites x a = absurd a
-from-free e t l _ cites x a = start-done e cites x a
+from-free e t l _ cites x a = a
 
 thread-allows : (d e : Doing) (t : Thread) (l : ℕ) (o : Op) (cites : Option ℕ) → AreHandsAlike d e → ThreadAllows d t l o cites → ThreadAllows e t l o cites
 thread-allows d e t l o cites (inl q) a = subst (λ z. ThreadAllows z t l o cites) q a
@@ -194,14 +189,16 @@ module _ (s u : Linkage) (k : AreAlike s u) (number line : ℕ) (reply : Reply) 
       (subst (λ b. AreAlike (if b then reader_after s (entry t o told) else linkage_after s (entry t o told)) (linkage_after u (entry t o told))) (sym e) (alike-after s u k (entry t o told)))
 
   -- the reader's own state: what it is in the midst of, and its line
-  reading-hands : (t : ℕ) → MayStart (doing_at s.control t) cites → (a b : Doing) → slice_get s.control.doing t ≡ Some a → AreHandsAlike a b → AreHandsAlike free b
-  reading-hands t may a b e (inl q) = inr (refl, subst IsDone q (done-start a cites (subst (λ o. MayStart (elim o [ None ↦ free | Some d ↦ d ]) cites) e may)))
-  reading-hands t may a b e (inr q) = inr (refl, q.1)
+  reading-hands : (t : ℕ) (c : Act) → ThreadAllows (doing_at s.control t) (M t) line (op.Line c) cites
+      → (a b : Doing) → slice_get s.control.doing t ≡ Some a → AreHandsAlike a b → AreHandsAlike free b
+  reading-hands t c may a b e (inl q) =
+      inr (refl, subst IsDone q (line-done a (M t) line c cites (subst (λ o. ThreadAllows (elim o [ None ↦ free | Some d ↦ d ]) (M t) line (op.Line c) cites) e may)))
+  reading-hands t c may a b e (inr q) = inr (refl, q.1)
 
   reading-lines : (t : Thread) → last_line s.control t ≤ line → (a b : ℕ) → slice_get s.control.lines (caller_place t) ≡ Some a → b ≤ a → b ≤ line
   reading-lines t may a b e l = (let q = get_or_from_slice_get s.control.lines (caller_place t) a 0 e in omega (arith, l, may, q))
 
-  read-dropped : (t : ℕ) (a : Act) (told : Told) → is_set_aside reply ≡ true → last_line s.control (M t) ≤ line → MayStart (doing_at s.control t) cites
+  read-dropped : (t : ℕ) (a : Act) (told : Told) → is_set_aside reply ≡ true → last_line s.control (M t) ≤ line → ThreadAllows (doing_at s.control t) (M t) line (op.Line a) cites
       → doing_after number line (op.Line a) reply ≡ free → AreAlike (reader_after s (entry (M t) (op.Line a) told)) u
   read-dropped t a told e l m f = record {
     managed = ap (λ p. record s.managed { managed = record s.managed.managed { pins = p } }) (aside-pins s.managed.managed.pins t reply e) ∙ k.managed;
@@ -209,7 +206,7 @@ module _ (s u : Linkage) (k : AreAlike s u) (number line : ℕ) (reply : Reply) 
     stand = k.stand;
     lines = pairwise-left IsLower s.control.lines u.control.lines (caller_place (M t)) line k.lines (reading-lines (M t) l);
     hands = pairwise-left AreHandsAlike s.control.doing u.control.doing t (doing_after number line (op.Line a) reply) k.hands
-        (λ x y q r. subst (λ z. AreHandsAlike z y) (sym f) (reading-hands t m x y q r));
+        (λ x y q r. subst (λ z. AreHandsAlike z y) (sym f) (reading-hands t a m x y q r));
   }
 
   -- a read that isn't set aside
@@ -242,9 +239,8 @@ module _ (s u : Linkage) (k : AreAlike s u) (number line : ℕ) (reply : Reply) 
         }
 
     read-follows : (ns : List Noted) (cells : List (Option ℕ)) → is_read (op.Line a) ≡ true → doing_after number line (op.Line a) reply ≡ free
-        → ThreadAllows (doing_at s.control t) (M t) line (op.Line a) cites ≡ MayStart (doing_at s.control t) cites
         → ReaderMayCome s (entry (M t) (op.Line a) told) → IsReadReply ns cells s.managed.managed number (M t) c reply → Follows s u (entry (M t) (op.Line a) told)
-    read-follows ns cells e f st may w = by (is_set_aside reply) refl
+    read-follows ns cells e f may w = by (is_set_aside reply) refl
       where
         aside-is : (b : Bool) → is_set_aside reply ≡ b → is_aside (entry (M t) (op.Line a) told) ≡ b
         aside-is b q = ap (λ z. z && is_set_aside reply) e ∙ q
@@ -253,13 +249,13 @@ module _ (s u : Linkage) (k : AreAlike s u) (number line : ℕ) (reply : Reply) 
         after-is = ap (λ z. if z then reader_after s (entry (M t) (op.Line a) told) else linkage_after s (entry (M t) (op.Line a) told)) e
 
         by : (b : Bool) → is_set_aside reply ≡ b → Follows s u (entry (M t) (op.Line a) told)
-        by true q = dropped (aside-is true q) (subst (λ z. AreAlike z u) (sym after-is) (read-dropped t a told q may.line (subst (λ z. z) st may.order) f))
+        by true q = dropped (aside-is true q) (subst (λ z. AreAlike z u) (sym after-is) (read-dropped t a told q may.line may.order f))
         by false q = (let r = standing-reply ns cells s.managed.managed number (M t) c reply q w in
             comes_too (aside-is false q) (read-comes may r) (subst (λ z. AreAlike z (linkage_after u (entry (M t) (op.Line a) told))) (sym after-is) (read-alike r)))
 
   step : (t : Thread) (o : Op) (told : Told) (ns : List Noted) (cells : List (Option ℕ)) → EntryMayCome (is_read o) ns cells s (entry t o told) → Follows s u (entry t o told)
-  step (M t) (op.Line (act.Read c)) told ns cells w = read-follows t c.0 (act.Read c) told (λ m. refl) ns cells refl refl refl w.0 (w.1 c.0 refl)
-  step (M t) (op.Line (act.Await c)) told ns cells w = read-follows t c.0 (act.Await c) told (λ m. refl) ns cells refl refl refl w.0 (w.1 c.0 refl)
+  step (M t) (op.Line (act.Read c)) told ns cells w = read-follows t c.0 (act.Read c) told (λ m. refl) ns cells refl refl w.0 (w.1 c.0 refl)
+  step (M t) (op.Line (act.Await c)) told ns cells w = read-follows t c.0 (act.Await c) told (λ m. refl) ns cells refl refl w.0 (w.1 c.0 refl)
   step (P t) (op.Line (act.Read c)) told ns cells w = absurd w.0.event.0.1
   step (P t) (op.Line (act.Await c)) told ns cells w = absurd w.0.event.0.1
   step C (op.Line (act.Read c)) told ns cells w = absurd w.0.event.0

@@ -69,46 +69,27 @@ caller_place C = 0
 abbrev pub doing_at : Control → ℕ → Doing
 doing_at s t = elim (slice_get s.doing t) [ None ↦ free | Some d ↦ d ]
 
--- the first event of an operation: nothing has to follow; a pair, a lent handle or a gripped peer may have been left
--- behind by an operation that found no memory
-abbrev pub MayStart : Doing → Option ℕ → Type 0
-MayStart free cites = cites ≡ None
-MayStart (made n line p h sort f) cites = cites ≡ None
-MayStart (lent n line h x) cites = cites ≡ None
-MayStart (gripped n line p h sort f) cites = cites ≡ None
-MayStart (given n line h) cites = ⊥
-MayStart (met n line h) cites = ⊥
-
--- an `adopt` follows the make of its own line, which it cites, with its peer and handle; the line is a `bridge`
-abbrev pub MayAdopt : Doing → Thread → ℕ → Op → Option ℕ → Type 0
-MayAdopt (made n line p h sort f) t l (op.Adopt v kind k p' h') cites = (cites ≡ Some n)
-    × (l ≡ line) × (p'.0 ≡ p) × (h'.0 ≡ h) × IsLine t (act.Bridge v kind k sort f)
-MayAdopt _ t l o cites = ⊥
-
--- a `land` follows the lend of its own line, with its handle and static
-abbrev pub MayLand : Doing → ℕ → Op → Option ℕ → Type 0
-MayLand (lent n line h x) l (op.Land h' x') cites = (cites ≡ Some n) × (l ≡ line) × (h'.0 ≡ h) × (x'.0 ≡ x)
-MayLand _ l o cites = ⊥
-
--- a `meet` follows the grip of its own line, with its peer, handle, sort and number of fields
-abbrev pub MayMeet : Doing → ℕ → Op → Option ℕ → Type 0
-MayMeet (gripped n line p h sort f) l (op.Meet v sort' f' p' h') cites = (cites ≡ Some n)
-    × (l ≡ line) × (p'.0 ≡ p) × (h'.0 ≡ h) × (sort' ≡ sort) × (f' ≡ f)
-MayMeet _ l o cites = ⊥
-
--- whose turn it is: a `release` follows the give of its own line, or the meet that didn't take the handle
-abbrev pub MayRelease : Doing → ℕ → ℕ → Option ℕ → Type 0
-MayRelease (given n line h) l h' cites = (cites ≡ Some n) × (l ≡ line) × (h' ≡ h)
-MayRelease (met n line h) l h' cites = (cites ≡ Some n) × (l ≡ line) × (h' ≡ h)
-MayRelease _ l h' cites = ⊥
-
--- the event may come next, of what the thread is in the midst of
+-- whether a managed thread's event may come next, by what it is in the midst of. An `adopt`, a `land`, a `meet` and a
+-- `release` follow the make, the lend, the grip and the give of their own line: each cites that entry, and names the
+-- peer, the handle and what else it gave; an `adopt` stands on a `bridge` line. A `release` follows a meet that didn't
+-- take the handle, too. Every other event is the first of an operation and cites nothing; it comes where no handle
+-- waits for its release, but a pair, a lent handle or a gripped peer may have been left behind by an operation that
+-- found no memory.
 abbrev pub ThreadAllows : Doing → Thread → ℕ → Op → Option ℕ → Type 0
-ThreadAllows d t l (op.Adopt v kind k p h) cites = MayAdopt d t l (op.Adopt v kind k p h) cites
-ThreadAllows d t l (op.Land h x) cites = MayLand d l (op.Land h x) cites
-ThreadAllows d t l (op.Meet v sort f p h) cites = MayMeet d l (op.Meet v sort f p h) cites
-ThreadAllows d t l (op.Release h) cites = MayRelease d l h.0 cites
-ThreadAllows d t l _ cites = MayStart d cites
+ThreadAllows (made n line p h sort f) t l (op.Adopt v kind k p' h') cites = (cites ≡ Some n)
+    × (l ≡ line) × (p'.0 ≡ p) × (h'.0 ≡ h) × IsLine t (act.Bridge v kind k sort f)
+ThreadAllows (lent n line h x) _ l (op.Land h' x') cites = (cites ≡ Some n) × (l ≡ line) × (h'.0 ≡ h) × (x'.0 ≡ x)
+ThreadAllows (gripped n line p h sort f) _ l (op.Meet _ sort' f' p' h') cites = (cites ≡ Some n)
+    × (l ≡ line) × (p'.0 ≡ p) × (h'.0 ≡ h) × (sort' ≡ sort) × (f' ≡ f)
+ThreadAllows (given n line h) _ l (op.Release h') cites = (cites ≡ Some n) × (l ≡ line) × (h'.0 ≡ h)
+ThreadAllows (met n line h) _ l (op.Release h') cites = (cites ≡ Some n) × (l ≡ line) × (h'.0 ≡ h)
+ThreadAllows (given _ _ _) _ _ _ _ = ⊥
+ThreadAllows (met _ _ _) _ _ _ _ = ⊥
+ThreadAllows _ _ _ (op.Adopt _ _ _ _ _) _ = ⊥
+ThreadAllows _ _ _ (op.Land _ _) _ = ⊥
+ThreadAllows _ _ _ (op.Meet _ _ _ _ _) _ = ⊥
+ThreadAllows _ _ _ (op.Release _) _ = ⊥
+ThreadAllows _ _ _ _ cites = cites ≡ None
 
 -- what the thread is in the midst of after an event with that number, line and reply
 abbrev pub doing_after : ℕ → ℕ → Op → Reply → Doing
@@ -154,77 +135,36 @@ IsPhaseOf (marked o) c p = p ≡ at.Marked
 IsPhaseOf (restoring o answers) c p = (answers ≡ []) × (p ≡ at.Swept)
 IsPhaseOf (restored o answers clear) c p = p ≡ at.Restored
 
--- each event of the driver by the phase that it belongs to
-abbrev pub MaySnap : Stand → Option ℕ → Type 0
-MaySnap idle cites = cites ≡ None
-MaySnap _ cites = ⊥
-
-abbrev pub MayContractNow : Stand → ℕ → Option ℕ → Type 0
-MayContractNow (snapped o) k cites = (o.cycle ≡ k) × (cites ≡ None)
-MayContractNow _ k cites = ⊥
-
--- a mirror cites the snap of its cycle, and adds exactly the mirror edges of its dead part, carried to the peers
-abbrev pub MayMirrorNow : Stand → Managed → List Issued → ℕ → Option ℕ → Told → Type 0
-MayMirrorNow (contracted o comps heavy xrefs) s issued k cites (references_of refs) =
-    (o.cycle ≡ k) × (cites ≡ Some o.snap) × (refs ≡ carried_edges s issued (mirror_edges comps xrefs))
-MayMirrorNow _ s issued k cites told = ⊥
-
--- the candidates' handles are weakened in order, each citing the snap
-abbrev pub MayWeakenNow : Stand → Managed → ℕ → Option ℕ → Type 0
-MayWeakenNow (weakening o count weakened swept) s h cites = (cites ≡ Some o.snap)
-    × (swept ≡ false) × IsCandidateHandle s count h
-MayWeakenNow _ s h cites = ⊥
-
--- a begin of the driver opens the cycle's own marking, once all handles are weakened
-abbrev pub MayBeginNow : Stand → ℕ → Reply → Option ℕ → Type 0
-MayBeginNow (weakening o count weakened swept) c (says.Mark j) cites = (count ≡ c) × (cites ≡ None)
-MayBeginNow _ c reply cites = ⊥
-
--- a sweep of the driver ends a peer thread's marking before its own begins, at most once, or its own
-abbrev pub MaySweepNow : Stand → ℕ → Option ℕ → Type 0
-MaySweepNow (weakening o count weakened swept) c cites = (count ≡ c) × (swept ≡ false) × (cites ≡ None)
-MaySweepNow (marked o) c cites = cites ≡ None
-MaySweepNow _ c cites = ⊥
-
--- the candidates' handles are restored in the same order
-abbrev pub MayRestoreNow : Stand → Managed → ℕ → Option ℕ → Type 0
-MayRestoreNow (restoring o answers) s h cites = (cites ≡ None) × IsCandidateHandle s (length answers) h
-MayRestoreNow _ s h cites = ⊥
-
-abbrev pub MayClearNow : Stand → ℕ → ℕ → Option ℕ → Type 0
-MayClearNow (restoring o answers) c k cites = (cites ≡ None) × (length answers ≡ c) × (o.cycle ≡ k)
-MayClearNow _ c k cites = ⊥
-
--- a resolve cites the clear of its cycle, and goes by the answers that the restores gave
-abbrev pub MayResolveNow : Stand → ℕ → Option ℕ → Told → Type 0
-MayResolveNow (restored o answers clear) k cites (resolution_of said freed) = (o.cycle ≡ k)
-    × (cites ≡ Some clear) × (said ≡ answers)
-MayResolveNow _ k cites told = ⊥
-
-abbrev pub MayAbandonNow : Stand → ℕ → Option ℕ → Type 0
-MayAbandonNow (snapped o) k cites = (o.cycle ≡ k) × (cites ≡ None)
-MayAbandonNow (contracted o comps heavy xrefs) k cites = (o.cycle ≡ k) × (cites ≡ None)
-MayAbandonNow _ k cites = ⊥
-
-abbrev pub MayRefuseNow : Stand → ℕ → Option ℕ → Told → Type 0
-MayRefuseNow stand c cites (phase_of phase) = IsPhaseOf stand c phase × (cites ≡ None)
-MayRefuseNow stand c cites _ = ⊥
-
--- the driver's event may come next
+-- whether the driver's event may come next, by where it stands. A line comes where no phase is half done, and a refusal
+-- tells the driver's phase. A mirror and each weaken cite the snap of their cycle, a resolve cites its clear, and no
+-- other event cites. A mirror adds exactly the mirror edges of its dead part, carried to the peers. The candidates'
+-- handles are weakened in order, and restored in the same order. A sweep ends a peer thread's marking, at most once and
+-- before the cycle's own marking is begun, or that one; a begin opens it, once all handles are weakened. A resolve goes
+-- by the answers that the restores gave. A cycle is abandoned before it is mirrored.
 abbrev pub DriverAllows : Stand → Managed → List Issued → Op → Reply → Option ℕ → Told → Type 0
-DriverAllows stand s issued (op.Line a) reply cites told = IsAtRest stand (length (candidates_of s)) × (cites ≡ None)
-DriverAllows stand s issued (op.Snap k) reply cites told = MaySnap stand cites
-DriverAllows stand s issued (op.Contract k) reply cites told = MayContractNow stand k.0 cites
-DriverAllows stand s issued (op.Mirror k) reply cites told = MayMirrorNow stand s issued k.0 cites told
-DriverAllows stand s issued (op.Weaken h) reply cites told = MayWeakenNow stand s h.0 cites
-DriverAllows stand s issued op.Begin reply cites told = MayBeginNow stand (length (candidates_of s)) reply cites
-DriverAllows stand s issued op.Sweep reply cites told = MaySweepNow stand (length (candidates_of s)) cites
-DriverAllows stand s issued (op.Restore h) reply cites told = MayRestoreNow stand s h.0 cites
-DriverAllows stand s issued (op.Clear k) reply cites told = MayClearNow stand (length (candidates_of s)) k.0 cites
-DriverAllows stand s issued (op.Resolve k) reply cites told = MayResolveNow stand k.0 cites told
-DriverAllows stand s issued (op.Abandon k) reply cites told = MayAbandonNow stand k.0 cites
-DriverAllows stand s issued (op.Refused w) reply cites told = MayRefuseNow stand (length (candidates_of s)) cites told
-DriverAllows stand s issued _ reply cites told = ⊥
+DriverAllows stand s _ (op.Line _) _ cites _ = IsAtRest stand (length (candidates_of s)) × (cites ≡ None)
+DriverAllows idle _ _ (op.Snap _) _ cites _ = cites ≡ None
+DriverAllows (snapped o) _ _ (op.Contract k) _ cites _ = (o.cycle ≡ k.0) × (cites ≡ None)
+DriverAllows (contracted o comps _ xrefs) s issued (op.Mirror k) _ cites (references_of refs) = (o.cycle ≡ k.0)
+    × (cites ≡ Some o.snap) × (refs ≡ carried_edges s issued (mirror_edges comps xrefs))
+DriverAllows (weakening o count _ swept) s _ (op.Weaken h) _ cites _ = (cites ≡ Some o.snap)
+    × (swept ≡ false) × IsCandidateHandle s count h.0
+DriverAllows (weakening _ count _ swept) s _ op.Sweep _ cites _ = (count ≡ length (candidates_of s))
+    × (swept ≡ false) × (cites ≡ None)
+DriverAllows (weakening _ count _ _) s _ op.Begin (says.Mark _) cites _ = (count ≡ length (candidates_of s))
+    × (cites ≡ None)
+DriverAllows (marked _) _ _ op.Sweep _ cites _ = cites ≡ None
+DriverAllows (restoring _ answers) s _ (op.Restore h) _ cites _ = (cites ≡ None)
+    × IsCandidateHandle s (length answers) h.0
+DriverAllows (restoring o answers) s _ (op.Clear k) _ cites _ = (cites ≡ None)
+    × (length answers ≡ length (candidates_of s)) × (o.cycle ≡ k.0)
+DriverAllows (restored o answers clear) _ _ (op.Resolve k) _ cites (resolution_of said _) = (o.cycle ≡ k.0)
+    × (cites ≡ Some clear) × (said ≡ answers)
+DriverAllows (snapped o) _ _ (op.Abandon k) _ cites _ = (o.cycle ≡ k.0) × (cites ≡ None)
+DriverAllows (contracted o _ _ _) _ _ (op.Abandon k) _ cites _ = (o.cycle ≡ k.0) × (cites ≡ None)
+DriverAllows stand s _ (op.Refused _) _ cites (phase_of phase) = IsPhaseOf stand (length (candidates_of s)) phase
+    × (cites ≡ None)
+DriverAllows _ _ _ _ _ _ _ = ⊥
 
 -- the answer that a restore gives to the candidate
 abbrev pub answer_in : Reply → Answer

@@ -13,7 +13,7 @@ use Rattle.joint_machine.specs.declared.events.Op.{Op}
 use Rattle.joint_machine.specs.declared.events.Op.TheVariants as op
 use Rattle.joint_machine.specs.declared.events.Reply.{Reply}
 use Rattle.joint_machine.specs.declared.events.Made.{Made}
-use Rattle.joint_machine.specs.Control.{Stand, contracted, weakening, CallerAllows, IsCandidateHandle, MayMirrorNow, MayWeakenNow}
+use Rattle.joint_machine.specs.Control.{Stand, contracted, weakening, CallerAllows, IsCandidateHandle, DriverAllows}
 use Rattle.joint_machine.specs.Linked.{Linkage, SideLawful}
 use Rattle.joint_machine.specs.PeerReplay.{peer_answer}
 use Rattle.joint_machine.specs.Told.{Told, Noted, references_of}
@@ -25,7 +25,7 @@ use Rattle.known_laws.proofs.KnownPasts.{past_invariant_holds}
 use Rattle.known_laws.proofs.Later.{kept_end}
 
 mirror-adds : (s : Linkage) (st : Stand) (t : Thread) (k : Cycle) (reply : Reply) (cites : Option ℕ) (told : Told) → DriverInvariant s.managed s.peer st
-    → MayMirrorNow st s.managed.managed s.peer.peers.issued k.0 cites told → reply ≡ (peer_answer s.peer t (op.Mirror k) cites told).reply → AddsMirrorEdges s told reply k.0
+    → DriverAllows st s.managed.managed s.peer.peers.issued (op.Mirror k) reply cites told → reply ≡ (peer_answer s.peer t (op.Mirror k) cites told).reply → AddsMirrorEdges s told reply k.0
 mirror-adds s (contracted o comps heavy xrefs) t k reply cites (references_of refs) d a e = record {
   cycle = d.before.cycle;
   open_cycle = (d.before.opened.cycle, d.before.opened.number ∙ a.0);
@@ -41,14 +41,15 @@ mirror-adds s (contracted o comps heavy xrefs) t k reply cites (references_of re
 mirror-adds s (contracted o comps heavy xrefs) t k reply cites told d a e = absurd a
 mirror-adds s st t k reply cites told d a e = absurd a
 
-weaken-takes : (s : Linkage) (st : Stand) (g : ℕ) (cites : Option ℕ) → MirrorFits s.managed s.peer st → MayWeakenNow st s.managed.managed g cites → TakesNext s cites g
-weaken-takes s (weakening o count x y) g cites m a = record {
+weaken-takes : (s : Linkage) (st : Stand) (g : HNum) (reply : Reply) (cites : Option ℕ) (told : Told) → MirrorFits s.managed s.peer st
+    → DriverAllows st s.managed.managed s.peer.peers.issued (op.Weaken g) reply cites told → TakesNext s cites g.0
+weaken-takes s (weakening o count x y) g reply cites told m a = record {
   mirror = m.mirror;
   stands = m.stands;
   cited = a.0 ∙ ap Some (sym m.snap);
-  candidate = subst (λ n. IsCandidateHandle s.managed.managed n g) (sym m.weak_count) a.2;
+  candidate = subst (λ n. IsCandidateHandle s.managed.managed n g.0) (sym m.weak_count) a.2;
 }
-weaken-takes s st g cites m a = absurd a
+weaken-takes s st g reply cites told m a = absurd a
 
 module _ (x : Noted) (h : List Noted) (l : Lawful (x ∷ h)) where
   abbrev made : Thread → Op → Made
@@ -66,7 +67,7 @@ module _ (x : Noted) (h : List Noted) (l : Lawful (x ∷ h)) where
   mirror-of (P u) k v a w = absurd v
 
   weaken-of : (t : Thread) (g : HNum) → IsEvent t (op.Weaken g) → Allows t (op.Weaken g) → TakesNext (end_of h) x.entry.made.cites g.0
-  weaken-of C g v a = weaken-takes (end_of h) (end_of h).control.stand g.0 x.entry.made.cites (past_invariant_holds h l.1).mirror a
+  weaken-of C g v a = weaken-takes (end_of h) (end_of h).control.stand g x.entry.made.reply x.entry.made.cites (bare_told x.told) (past_invariant_holds h l.1).mirror a
   weaken-of (M u) g v a = absurd v
   weaken-of (P u) g v a = absurd v
 

@@ -8,14 +8,17 @@ use Rattle.std.proofs.Common.{◌≡◌, ◌⊎◌, inl, inr, ⊎_elim, ℕ, ◌
 use Rattle.std.proofs.lemmas.Option.{same_Some}
 use Rattle.joint_machine.specs.declared.names.Thread.{Thread}
 use Rattle.joint_machine.specs.declared.names.Thread.TheVariants.{M, P, C}
+use Rattle.joint_machine.specs.declared.names.Cycle.{Cycle}
 use Rattle.joint_machine.specs.declared.events.Op.{Op}
 use Rattle.joint_machine.specs.declared.events.Op.TheVariants as op
 use Rattle.joint_machine.specs.declared.events.Reply.{Reply}
 use Rattle.joint_machine.specs.declared.events.Reply.TheVariants as says
 use Rattle.joint_machine.specs.declared.events.Made.{Made}
 use Rattle.joint_machine.specs.Control.{Doing, free, made, lent, gripped, given, met, Control, Stand, snapped, contracted, weakening, marked, restoring, restored, CallerAllows, doing_after}
-use Rattle.joint_machine.specs.Control.{stand_after, control_after, doing_at, MayAdopt, MayLand, MayMeet, MayRelease, MayResolveNow}
+use Rattle.joint_machine.specs.Control.{stand_after, control_after, doing_at, ThreadAllows, DriverAllows}
 use Rattle.joint_machine.specs.Lines.{IsEvent}
+use Rattle.joint_machine.specs.Managed.{Managed}
+use Rattle.joint_machine.specs.Peers.{Issued}
 use Rattle.joint_machine.specs.Told.{Told, Noted, contraction_of, resolution_of}
 use Rattle.joint_machine.proofs.Deciding.{none_some}
 use Rattle.joint_laws.proofs.Hands.{doing-set_cases}
@@ -136,27 +139,25 @@ earlier h l y p n e =
     cited-earlier s.back y.entry.made y.entry.number n y.entry.made.op (pasts_cite y s.back s.lawful) e
 
 -- who cites an entry that waits, waits with it
-adopt-waits : (d : Doing) (t : Thread) (l n : ℕ) (o : Op) (c : Option ℕ) → MayAdopt d t l o c → c ≡ Some n → IsNumbered d n
-adopt-waits (made k line p g sort f) t l n (op.Adopt v kind j p' g') c a e = same_Some _ _ (sym a.0 ∙ e)
-adopt-waits _ t l n o c a e = absurd a
+thread-waits : (d : Doing) (t : Thread) (l n : ℕ) (o : Op) (c : Option ℕ) → ThreadAllows d t l o c → c ≡ Some n → IsNumbered d n
+thread-waits (made k line p g sort f) t l n (op.Adopt v kind j p' g') c a e = same_Some _ _ (sym a.0 ∙ e)
+thread-waits (lent k line g y) t l n (op.Land g' y') c a e = same_Some _ _ (sym a.0 ∙ e)
+thread-waits (gripped k line p g sort f) t l n (op.Meet v sort' f' p' g') c a e = same_Some _ _ (sym a.0 ∙ e)
+thread-waits (given k line g) t l n (op.Release g') c a e = same_Some _ _ (sym a.0 ∙ e)
+thread-waits (met k line g) t l n (op.Release g') c a e = same_Some _ _ (sym a.0 ∙ e)
+thread-waits (given k line g) t l n o c a e = absurd a
+thread-waits (met k line g) t l n o c a e = absurd a
+thread-waits d t l n (op.Adopt v kind j p g) c a e = absurd a
+thread-waits d t l n (op.Land g y) c a e = absurd a
+thread-waits d t l n (op.Meet v sort f p g) c a e = absurd a
+thread-waits d t l n (op.Release g) c a e = absurd a
+thread-waits d t l n o c a e = absurd (none_some n (sym a ∙ e))
 
-land-waits : (d : Doing) (l n : ℕ) (o : Op) (c : Option ℕ) → MayLand d l o c → c ≡ Some n → IsNumbered d n
-land-waits (lent k line g y) l n (op.Land g' y') c a e = same_Some _ _ (sym a.0 ∙ e)
-land-waits _ l n o c a e = absurd a
-
-meet-waits : (d : Doing) (l n : ℕ) (o : Op) (c : Option ℕ) → MayMeet d l o c → c ≡ Some n → IsNumbered d n
-meet-waits (gripped k line p g sort f) l n (op.Meet v sort' f' p' g') c a e = same_Some _ _ (sym a.0 ∙ e)
-meet-waits _ l n o c a e = absurd a
-
-release-waits : (d : Doing) (l g n : ℕ) (c : Option ℕ) → MayRelease d l g c → c ≡ Some n → IsNumbered d n
-release-waits (given k line g') l g n c a e = same_Some _ _ (sym a.0 ∙ e)
-release-waits (met k line g') l g n c a e = same_Some _ _ (sym a.0 ∙ e)
-release-waits _ l g n c a e = absurd a
-
-resolve-waits : (st : Stand) (k n : ℕ) (c : Option ℕ) (told : Told) → MayResolveNow st k c told → c ≡ Some n → IsCleared st n
-resolve-waits (restored o answers clear) k n c (resolution_of alive freed) a e = same_Some _ _ (sym a.1 ∙ e)
-resolve-waits (restored o answers clear) k n c _ a e = absurd a
-resolve-waits _ k n c told a e = absurd a
+resolve-waits : (st : Stand) (m : Managed) (i : List Issued) (k : Cycle) (n : ℕ) (r : Reply) (c : Option ℕ) (told : Told)
+    → DriverAllows st m i (op.Resolve k) r c told → c ≡ Some n → IsCleared st n
+resolve-waits (restored o answers clear) m i k n r c (resolution_of alive freed) a e = same_Some _ _ (sym a.1 ∙ e)
+resolve-waits (restored o answers clear) m i k n r c _ a e = absurd a
+resolve-waits _ m i k n r c told a e = absurd a
 
 -- an event begins the waiting of its own entry alone
 doing-begins : (k l n : ℕ) (o : Op) (r : Reply) → IsNumbered (doing_after k l o r) n → k ≡ n
@@ -196,12 +197,9 @@ module _ (x : Noted) (h : List Noted) (l : Lawful (x ∷ h)) (n : ℕ) where
 
   -- who cites an entry that no other may waits with it
   citer-waits : x.entry.made.cites ≡ Some n → (t : Thread) (o : Op) → CitesOnce o → IsEvent t o → Allows t o → WaitsBy (end_of h).control t n
-  citer-waits e (M u) (op.Adopt v kind k p g) z ev a = adopt-waits (doing_at (end_of h).control u) (M u) x.entry.made.index n (op.Adopt v kind k p g) x.entry.made.cites a e
-  citer-waits e (M u) (op.Land g y) z ev a = land-waits (doing_at (end_of h).control u) x.entry.made.index n (op.Land g y) x.entry.made.cites a e
-  citer-waits e (M u) (op.Meet v sort f p g) z ev a = meet-waits (doing_at (end_of h).control u) x.entry.made.index n (op.Meet v sort f p g) x.entry.made.cites a e
-  citer-waits e (M u) (op.Release g) z ev a = release-waits (doing_at (end_of h).control u) x.entry.made.index g.0 n x.entry.made.cites a e
-  citer-waits e C (op.Resolve k) z ev a = resolve-waits (end_of h).control.stand k.0 n x.entry.made.cites (bare_told x.told) a e
-  citer-waits e (M u) (op.Resolve k) z ev a = absurd ev
+  citer-waits e (M u) o z ev a = thread-waits (doing_at (end_of h).control u) (M u) x.entry.made.index n o x.entry.made.cites a e
+  citer-waits e C (op.Resolve k) z ev a = resolve-waits (end_of h).control.stand (end_of h).managed.managed (end_of h).peer.peers.issued k n
+      x.entry.made.reply x.entry.made.cites (bare_told x.told) a e
   citer-waits e (P u) (op.Resolve k) z ev a = absurd ev
   citer-waits e t (op.Adopt v kind k p g) z ev a = absurd ev.0
   citer-waits e t (op.Land g y) z ev a = absurd ev.0

@@ -3,7 +3,7 @@
 -- past. The order of each caller's events lets an entry come only with that number.
 use Rattle.known_laws.proofs.Coming.{event_of, turn_of}
 use Rattle.joint_machine.specs.PinsTold.{bare_told}
-use Rattle.std.proofs.Common.{◌≡◌, ◌⊎◌, inl, inr, ⊎_elim, ℕ, List, [], ◌∷◌, length, Option, Some, None, refl, sym, ap, ◌∙◌, subst}
+use Rattle.std.proofs.Common.{◌≡◌, ◌⊎◌, inl, inr, ⊎_elim, ℕ, List, [], ◌∷◌, Option, Some, None, refl, sym, ap, ◌∙◌, subst}
 use Rattle.joint_machine.specs.declared.names.Thread.{Thread}
 use Rattle.joint_machine.specs.declared.names.Thread.TheVariants.{M, P, C}
 use Rattle.joint_machine.specs.declared.names.Sort.{Sort}
@@ -11,7 +11,6 @@ use Rattle.joint_machine.specs.declared.names.Var.{Var}
 use Rattle.joint_machine.specs.declared.names.StaticNo.{StaticNo}
 use Rattle.joint_machine.specs.declared.names.PNum.{PNum}
 use Rattle.joint_machine.specs.declared.names.HNum.{HNum}
-use Rattle.joint_machine.specs.declared.names.Cycle.{Cycle}
 use Rattle.joint_machine.specs.declared.names.Kind.{Kind}
 use Rattle.joint_machine.specs.declared.events.Op.{Op}
 use Rattle.joint_machine.specs.declared.events.Op.TheVariants as op
@@ -19,16 +18,16 @@ use Rattle.joint_machine.specs.declared.events.Reply.{Reply}
 use Rattle.joint_machine.specs.declared.events.Reply.TheVariants as says
 use Rattle.joint_machine.specs.declared.events.Made.{Made}
 use Rattle.joint_machine.specs.Control.{Doing, free, made, lent, gripped, given, met, Stand, idle, snapped, contracted, weakening, marked, restoring, restored, CallerAllows, doing_after, stand_after}
-use Rattle.joint_machine.specs.Control.{control_after, doing_at, MayStart, MayAdopt, MayLand, MayMeet, MayRelease, MaySnap, MayContractNow, MayMirrorNow, MayWeakenNow, MayBeginNow, MaySweepNow}
-use Rattle.joint_machine.specs.Control.{MayRestoreNow, MayResolveNow, MayClearNow, MayAbandonNow, MayRefuseNow, DriverAllows}
+use Rattle.joint_machine.specs.Control.{control_after, doing_at, ThreadAllows, DriverAllows}
 use Rattle.joint_machine.specs.Lines.{IsEvent}
-use Rattle.joint_machine.specs.Managed.{Managed, candidates_of}
+use Rattle.joint_machine.specs.Managed.{Managed}
 use Rattle.joint_machine.specs.Peers.{Issued}
 use Rattle.joint_machine.specs.Told.{Told, Noted, contraction_of, references_of, resolution_of, phase_of}
 use Rattle.joint_laws.specs.LinkedInvariants.{doing_in}
 use Rattle.joint_laws.proofs.Hands.{doing-set_cases, opening-free}
 use Rattle.known_laws.specs.Pasts.{Lawful, end_of}
 use Rattle.known_laws.specs.PastEntries.{InPast}
+use Rattle.known_laws.specs.Turns.{OpensOperation}
 use Rattle.known_laws.specs.Citations.{HasCited, IsMakeOf, IsLendOf, IsGripOf, IsNotNew, IsGiveOf, IsMeetOf, IsSnapOf, IsClearOf, Cites, PastsCite}
 use Rattle.known_laws.proofs.PastsJoin.{below}
 
@@ -93,15 +92,16 @@ opened_later x h (marked o) b = tt
 opened_later x h (restoring o answers) b = tt
 opened_later x h (restored o answers clear) b = later x h C clear _ b
 
-clears : (x : Noted) (h : List Noted) (st : Stand) (c k : ℕ) (reply : Reply) (told : Told) (cites : Option ℕ) → x.entry.made.caller ≡ C
-    → x.entry.made.op ≡ op.Clear record { 0 = k } → MayClearNow st c k cites → WasOpened (x ∷ h) (stand_after st x.entry.number (op.Clear record { 0 = k }) reply told)
-clears x h (restoring o answers) c k reply told cites e f a = record { begun = x; there = inl refl; numbered = refl; same = e; as_said = f ∙ (λ i. op.Clear record { 0 = sym a.2 i }) }
-clears x h _ c k reply told cites e f a = absurd a
+clears : (x : Noted) (h : List Noted) (st : Stand) (m : Managed) (i : List Issued) (k : ℕ) (reply : Reply) (cites : Option ℕ) (told : Told)
+    → x.entry.made.caller ≡ C → x.entry.made.op ≡ op.Clear record { 0 = k } → DriverAllows st m i (op.Clear record { 0 = k }) reply cites told
+    → WasOpened (x ∷ h) (stand_after st x.entry.number (op.Clear record { 0 = k }) reply told)
+clears x h (restoring o answers) m i k reply cites told e f a = record { begun = x; there = inl refl; numbered = refl; same = e; as_said = f ∙ (λ j. op.Clear record { 0 = sym a.2 j }) }
+clears x h _ m i k reply cites told e f a = absurd a
 
 opens : (x : Noted) (h : List Noted) (st : Stand) (m : Managed) (i : List Issued) (line : ℕ) (o : Op) (reply : Reply) (cites : Option ℕ) (told : Told) → x.entry.made.caller ≡ C
-    → x.entry.made.op ≡ o → ((k : Cycle) → o ≡ op.Clear k → (c : ℕ) × MayClearNow st c k.0 cites) → WasOpened h st → WasOpened (x ∷ h) (stand_after st x.entry.number o reply told)
+    → x.entry.made.op ≡ o → DriverAllows st m i o reply cites told → WasOpened h st → WasOpened (x ∷ h) (stand_after st x.entry.number o reply told)
 opens x h st m i line (op.Snap k) reply cites told e f a b = record { begun = x; there = inl refl; numbered = refl; same = e; as_said = f }
-opens x h st m i line (op.Clear k) reply cites told e f a b = (let w = a k refl in clears x h st w.0 k.0 reply told cites e f w.1)
+opens x h st m i line (op.Clear k) reply cites told e f a b = clears x h st m i k.0 reply cites told e f a
 opens x h st m i line (op.Resolve k) reply cites told e f a b = tt
 opens x h st m i line (op.Abandon k) reply cites told e f a b = tt
 opens x h (snapped o) m i line (op.Contract k) reply cites (contraction_of comps heavy xrefs) e f a b = later x h C o.snap _ b
@@ -148,11 +148,7 @@ backed-step x h l b = by x.entry.made.caller refl (turn_of x h l)
     by C e a = given_back C e (
       λ v. begun_later x h (M v) (doing_at (end_of h).control v) (b.hands v),
       opens x h (end_of h).control.stand (end_of h).managed.managed (end_of h).peer.peers.issued x.entry.made.index x.entry.made.op x.entry.made.reply x.entry.made.cites
-          (bare_told x.told) e refl (λ k q. (
-            length (candidates_of (end_of h).managed.managed),
-            subst (λ o. CallerAllows (end_of h).control (end_of h).managed.managed (end_of h).peer.peers.issued C x.entry.made.index o x.entry.made.reply x.entry.made.cites (bare_told x.told)) q a,
-          ))
-          b.stand,
+          (bare_told x.told) e refl a b.stand,
     )
 
 pub backed : (h : List Noted) → Lawful h → Backed h
@@ -173,47 +169,14 @@ cited_by x h t n Q R l e c f b = record {
 }
 
 -- every other event cites nothing
-start-none : (d : Doing) (c : Option ℕ) → MayStart d c → c ≡ None
-start-none free c a = a
-start-none (made n line p h sort f) c a = a
-start-none (lent n line h y) c a = a
-start-none (gripped n line p h sort f) c a = a
-start-none (given n line h) c a = absurd a
-start-none (met n line h) c a = absurd a
-
-snap-none : (st : Stand) (c : Option ℕ) → MaySnap st c → c ≡ None
-snap-none idle c a = a
-snap-none _ c a = absurd a
-
-contract-none : (st : Stand) (k : ℕ) (c : Option ℕ) → MayContractNow st k c → c ≡ None
-contract-none (snapped o) k c a = a.1
-contract-none _ k c a = absurd a
-
-begin-none : (st : Stand) (n : ℕ) (r : Reply) (c : Option ℕ) → MayBeginNow st n r c → c ≡ None
-begin-none (weakening o count y z) n (says.Mark j) c a = a.1
-begin-none _ n r c a = absurd a
-
-sweep-none : (st : Stand) (n : ℕ) (c : Option ℕ) → MaySweepNow st n c → c ≡ None
-sweep-none (weakening o count y z) n c a = a.2
-sweep-none (marked o) n c a = a
-sweep-none _ n c a = absurd a
-
-restore-none : (st : Stand) (m : Managed) (g : ℕ) (c : Option ℕ) → MayRestoreNow st m g c → c ≡ None
-restore-none (restoring o answers) m g c a = a.0
-restore-none _ m g c a = absurd a
-
-clear-none : (st : Stand) (n k : ℕ) (c : Option ℕ) → MayClearNow st n k c → c ≡ None
-clear-none (restoring o answers) n k c a = a.0
-clear-none _ n k c a = absurd a
-
-abandon-none : (st : Stand) (k : ℕ) (c : Option ℕ) → MayAbandonNow st k c → c ≡ None
-abandon-none (snapped o) k c a = a.1
-abandon-none (contracted o comps heavy xrefs) k c a = a.1
-abandon-none _ k c a = absurd a
-
-refuse-none : (st : Stand) (n : ℕ) (c : Option ℕ) (told : Told) → MayRefuseNow st n c told → c ≡ None
-refuse-none st n c (phase_of p) a = a.1
-refuse-none st n c _ a = absurd a
+pub thread-none : (d : Doing) (t : Thread) (l : ℕ) (o : Op) (c : Option ℕ) → OpensOperation o → ThreadAllows d t l o c → c ≡ None
+thread-none d t l (op.Adopt v kind k p g) c f a = absurd f
+thread-none d t l (op.Land g y) c f a = absurd f
+thread-none d t l (op.Meet v sort k p g) c f a = absurd f
+thread-none d t l (op.Release g) c f a = absurd f
+thread-none (given n line g) t l o c f a = absurd a
+thread-none (met n line g) t l o c f a = absurd a
+thread-none d t l o c f a = a
 
 -- the driver's event goes by no entry
 abbrev IsUnciting : Op → Type 0
@@ -224,14 +187,16 @@ IsUnciting _ = Unit {0}
 
 driver-none : (st : Stand) (m : Managed) (i : List Issued) (o : Op) (r : Reply) (c : Option ℕ) (told : Told) → IsUnciting o → DriverAllows st m i o r c told → c ≡ None
 driver-none st m i (op.Line a) r c told u w = w.1
-driver-none st m i (op.Snap k) r c told u w = snap-none st c w
-driver-none st m i (op.Contract k) r c told u w = contract-none st k.0 c w
-driver-none st m i op.Begin r c told u w = begin-none st (length (candidates_of m)) r c w
-driver-none st m i op.Sweep r c told u w = sweep-none st (length (candidates_of m)) c w
-driver-none st m i (op.Restore g) r c told u w = restore-none st m g.0 c w
-driver-none st m i (op.Clear k) r c told u w = clear-none st (length (candidates_of m)) k.0 c w
-driver-none st m i (op.Abandon k) r c told u w = abandon-none st k.0 c w
-driver-none st m i (op.Refused v) r c told u w = refuse-none st (length (candidates_of m)) c told w
+driver-none idle m i (op.Snap k) r c told u w = w
+driver-none (snapped o) m i (op.Contract k) r c told u w = w.1
+driver-none (weakening o count y z) m i op.Begin (says.Mark j) c told u w = w.1
+driver-none (weakening o count y z) m i op.Sweep r c told u w = w.2
+driver-none (marked o) m i op.Sweep r c told u w = w
+driver-none (restoring o answers) m i (op.Restore g) r c told u w = w.0
+driver-none (restoring o answers) m i (op.Clear k) r c told u w = w.0
+driver-none (snapped o) m i (op.Abandon k) r c told u w = w.1
+driver-none (contracted o comps heavy xrefs) m i (op.Abandon k) r c told u w = w.1
+driver-none st m i (op.Refused v) r c (phase_of p) u w = w.1
 driver-none st m i (op.Mirror k) r c told u w = absurd u
 driver-none st m i (op.Weaken g) r c told u w = absurd u
 driver-none st m i (op.Resolve k) r c told u w = absurd u
@@ -239,19 +204,19 @@ driver-none st m i _ r c told u w = absurd w
 
 module _ (x : Noted) (h : List Noted) (l : Lawful (x ∷ h)) where
   adopt-cites : (d : Doing) (u : ℕ) (v : Var) (kind : Kind) (k : ℕ) (p : PNum) (g : HNum) → x.entry.made.caller ≡ M u → WasBegun h (M u) d
-      → MayAdopt d (M u) x.entry.made.index (op.Adopt v kind k p g) x.entry.made.cites → HasCited h x.entry.made x.entry.number (IsMakeOf x.entry.made.index p g)
+      → ThreadAllows d (M u) x.entry.made.index (op.Adopt v kind k p g) x.entry.made.cites → HasCited h x.entry.made x.entry.number (IsMakeOf x.entry.made.index p g)
   adopt-cites (made n line p' g' sort f) u v kind k p g e b a =
       cited_by x h (M u) n _ _ l e a.0 (λ m q. (q.0, q.1, q.2 ∙ sym a.1, q.3, q.4 ∙ (λ i. says.Made record { 0 = sym a.2 i } record { 0 = sym a.3 i }))) b
   adopt-cites _ u v kind k p g e b a = absurd a
 
   land-cites : (d : Doing) (u : ℕ) (g : HNum) (y : StaticNo) → x.entry.made.caller ≡ M u → WasBegun h (M u) d
-      → MayLand d x.entry.made.index (op.Land g y) x.entry.made.cites → HasCited h x.entry.made x.entry.number (IsLendOf x.entry.made.index g y)
+      → ThreadAllows d (M u) x.entry.made.index (op.Land g y) x.entry.made.cites → HasCited h x.entry.made x.entry.number (IsLendOf x.entry.made.index g y)
   land-cites (lent n line g' y') u g y e b a = cited_by x h (M u) n _ _ l e a.0
       (λ m q. (q.0, q.1 ∙ sym a.1, q.2 ∙ (λ i. op.Lend q.0 record { 0 = sym a.3 i }), q.3 ∙ (λ i. says.H record { 0 = sym a.2 i }))) b
   land-cites _ u g y e b a = absurd a
 
   meet-cites : (d : Doing) (u : ℕ) (v : Var) (p : PNum) (g : HNum) (sort : Sort) (f : ℕ) → x.entry.made.caller ≡ M u → WasBegun h (M u) d
-      → MayMeet d x.entry.made.index (op.Meet v sort f p g) x.entry.made.cites → HasCited h x.entry.made x.entry.number (IsGripOf x.entry.made.index p g sort f)
+      → ThreadAllows d (M u) x.entry.made.index (op.Meet v sort f p g) x.entry.made.cites → HasCited h x.entry.made x.entry.number (IsGripOf x.entry.made.index p g sort f)
   meet-cites (gripped n line p' g' sort' f') u v p g sort f e b a =
       cited_by x h (M u) n _ _ l e a.0 (λ m q. (q.0, q.1 ∙ sym a.1, q.2, q.3 ∙ (λ i. says.Gripped record { 0 = sym a.2 i } record { 0 = sym a.3 i } (sym a.4 i) (sym a.5 i)))) b
   meet-cites _ u v p g sort f e b a = absurd a
@@ -263,24 +228,28 @@ module _ (x : Noted) (h : List Noted) (l : Lawful (x ∷ h)) where
       (λ q. inr (q.0, q.1, q.2, q.3, q.4 ∙ sym i, q.5 ∙ (λ k. op.Meet q.0 q.2 q.3 q.1 record { 0 = sym e k }), q.6))
       w
 
-  release-cites : (d : Doing) (u : ℕ) (g : HNum) → x.entry.made.caller ≡ M u → WasBegun h (M u) d → MayRelease d x.entry.made.index g.0 x.entry.made.cites
+  release-cites : (d : Doing) (u : ℕ) (g : HNum) → x.entry.made.caller ≡ M u → WasBegun h (M u) d → ThreadAllows d (M u) x.entry.made.index (op.Release g) x.entry.made.cites
       → HasCited h x.entry.made x.entry.number (λ m. IsGiveOf x.entry.made.index g m ⊎ IsMeetOf x.entry.made.index g m)
   release-cites (given n line g') u g e b a = cited_by x h (M u) n _ _ l e a.0 (taken line g record { 0 = g' } a.1 a.2) b
   release-cites (met n line g') u g e b a = cited_by x h (M u) n _ _ l e a.0 (taken line g record { 0 = g' } a.1 a.2) b
   release-cites _ u g e b a = absurd a
 
-  mirror-cites : (st : Stand) (m : Managed) (i : List Issued) (k : ℕ) (told : Told) → x.entry.made.caller ≡ C
-      → WasOpened h st → MayMirrorNow st m i k x.entry.made.cites told → HasCited h x.entry.made x.entry.number (IsSnapOf k)
-  mirror-cites (contracted o comps heavy xrefs) m i k (references_of refs) e b a = cited_by x h C o.snap _ _ l e a.1 (λ m q. subst (λ c. IsSnapOf c m) a.0 q) b
-  mirror-cites (contracted o comps heavy xrefs) m i k _ e b a = absurd a
-  mirror-cites _ m i k told e b a = absurd a
+  abbrev May : Stand → Op → Told → Type 0
+  May st o told = DriverAllows st (end_of h).managed.managed (end_of h).peer.peers.issued o x.entry.made.reply x.entry.made.cites told
 
-  weaken-cites : (st : Stand) (m : Managed) (g : ℕ) → x.entry.made.caller ≡ C → WasOpened h st
-      → MayWeakenNow st m g x.entry.made.cites → HasCited h x.entry.made x.entry.number (λ m. (k : ℕ) × IsSnapOf k m)
-  weaken-cites (weakening o count y z) m g e b a = cited_by x h C o.snap _ _ l e a.0 (λ m q. (o.cycle, q)) b
-  weaken-cites _ m g e b a = absurd a
+  mirror-cites : (st : Stand) (k : ℕ) (told : Told) → x.entry.made.caller ≡ C
+      → WasOpened h st → May st (op.Mirror record { 0 = k }) told → HasCited h x.entry.made x.entry.number (IsSnapOf k)
+  mirror-cites (contracted o comps heavy xrefs) k (references_of refs) e b a = cited_by x h C o.snap _ _ l e a.1 (λ m q. subst (λ c. IsSnapOf c m) a.0 q) b
+  mirror-cites (contracted o comps heavy xrefs) k _ e b a = absurd a
+  mirror-cites _ k told e b a = absurd a
 
-  resolve-cites : (st : Stand) (k : ℕ) (told : Told) → x.entry.made.caller ≡ C → WasOpened h st → MayResolveNow st k x.entry.made.cites told → HasCited h x.entry.made x.entry.number (IsClearOf k)
+  weaken-cites : (st : Stand) (g : HNum) (told : Told) → x.entry.made.caller ≡ C → WasOpened h st
+      → May st (op.Weaken g) told → HasCited h x.entry.made x.entry.number (λ m. (k : ℕ) × IsSnapOf k m)
+  weaken-cites (weakening o count y z) g told e b a = cited_by x h C o.snap _ _ l e a.0 (λ m q. (o.cycle, q)) b
+  weaken-cites _ g told e b a = absurd a
+
+  resolve-cites : (st : Stand) (k : ℕ) (told : Told) → x.entry.made.caller ≡ C
+      → WasOpened h st → May st (op.Resolve record { 0 = k }) told → HasCited h x.entry.made x.entry.number (IsClearOf k)
   resolve-cites (restored o answers clear) k (resolution_of alive freed) e b a = cited_by x h C clear _ _ l e a.1 (λ m q. subst (λ c. IsClearOf c m) a.0 q) b
   resolve-cites (restored o answers clear) k _ e b a = absurd a
   resolve-cites _ k told e b a = absurd a
@@ -293,8 +262,8 @@ module _ (x : Noted) (h : List Noted) (l : Lawful (x ∷ h)) where
   by (M u) (op.Land g y) e w a = land-cites (doing_at (end_of h).control u) u g y e ((backed h l.1).hands u) a
   by (M u) (op.Meet v sort f p g) e w a = meet-cites (doing_at (end_of h).control u) u v p g sort f e ((backed h l.1).hands u) a
   by (M u) (op.Release g) e w a = release-cites (doing_at (end_of h).control u) u g e ((backed h l.1).hands u) a
-  by C (op.Mirror k) e w a = mirror-cites (end_of h).control.stand _ _ k.0 (bare_told x.told) e (backed h l.1).stand a
-  by C (op.Weaken g) e w a = weaken-cites (end_of h).control.stand _ g.0 e (backed h l.1).stand a
+  by C (op.Mirror k) e w a = mirror-cites (end_of h).control.stand k.0 (bare_told x.told) e (backed h l.1).stand a
+  by C (op.Weaken g) e w a = weaken-cites (end_of h).control.stand g (bare_told x.told) e (backed h l.1).stand a
   by C (op.Resolve k) e w a = resolve-cites (end_of h).control.stand k.0 (bare_told x.told) e (backed h l.1).stand a
   by (P u) (op.Adopt v kind k p g) e w a = absurd w.0
   by C (op.Adopt v kind k p g) e w a = absurd w.0
@@ -310,7 +279,7 @@ module _ (x : Noted) (h : List Noted) (l : Lawful (x ∷ h)) where
   by (P u) (op.Weaken g) e w a = absurd w
   by (M u) (op.Resolve k) e w a = absurd w
   by (P u) (op.Resolve k) e w a = absurd w
-  by (M u) o e w a = start-none (doing_at (end_of h).control u) x.entry.made.cites a
+  by (M u) o e w a = thread-none (doing_at (end_of h).control u) (M u) x.entry.made.index o x.entry.made.cites tt a
   by (P u) o e w a = a
   by C o e w a = driver-none (end_of h).control.stand (end_of h).managed.managed (end_of h).peer.peers.issued o x.entry.made.reply x.entry.made.cites (bare_told x.told) tt a
 

@@ -13,7 +13,7 @@ use Rattle.joint_machine.specs.declared.events.Op.TheVariants as op
 use Rattle.joint_machine.specs.declared.events.Made.{Made}
 use Rattle.joint_machine.specs.declared.events.Reply.{Reply}
 use Rattle.joint_machine.specs.declared.events.Reply.TheVariants as says
-use Rattle.joint_machine.specs.Control.{Stand, restored, restoring, idle, snapped, contracted, weakening, marked, DriverAllows, MayResolveNow, MayRestoreNow, CallerAllows, stand_after, answer_in}
+use Rattle.joint_machine.specs.Control.{Stand, restored, restoring, idle, snapped, contracted, weakening, marked, DriverAllows, CallerAllows, stand_after, answer_in}
 use Rattle.joint_machine.specs.Control.{Doing, free, made, lent, gripped, given, met, doing_after, control_after, doing_at}
 use Rattle.joint_machine.specs.Heaps.{Answered, answer, is_full, next_number, slot, fields_of}
 use Rattle.joint_machine.specs.Lines.{IsEvent, is_peer_event}
@@ -31,7 +31,7 @@ use Rattle.joint_laws.proofs.LinkedThreads.{adopt-hand, meet-hand}
 use Rattle.known_laws.specs.Driving.{AreFreshHands, AreFreshGiven}
 use Rattle.joint_laws.proofs.Renewing.{given-at}
 use Rattle.joint_laws.proofs.Restores.{restored-any}
-use Rattle.joint_machine.specs.PeerReplay.{PeerReplay, TableRow, restored_by, row_of}
+use Rattle.joint_machine.specs.PeerReplay.{PeerReplay, restored_by, row_of}
 use Rattle.joint_machine.specs.declared.names.HNum.{HNum}
 use Rattle.joint_machine.proofs.Deciding.{none_some}
 use Rattle.std.proofs.lemmas.Option.{same_Some}
@@ -134,19 +134,19 @@ peer_takes_none u (op.Resolve c) told h e d = absurd e
 peer_takes_none u _ told h e d = d
 
 -- the driver's resolve takes what the restores gave, which no thread has in hand
-resolve-takes : (r : ManagedReplay) (s : PeerReplay) (ds : List Doing) (st : Stand) (c : ℕ) (cites : Option ℕ) (told : Told) → CallersInvariant r s (hands st ds)
-    → MayResolveNow st c cites told → (t h : ℕ) → HasInHand (doing_in ds t) h → IsTaking (op.Resolve record { 0 = c }) told h → ⊥
-resolve-takes r s ds (restored o answers clear) c cites (resolution_of said freed) k a t h w x = (
+resolve-takes : (r : ManagedReplay) (s : PeerReplay) (ds : List Doing) (st : Stand) (c : ℕ) (reply : Reply) (cites : Option ℕ) (told : Told) → CallersInvariant r s (hands st ds)
+    → DriverAllows st r.managed s.peers.issued (op.Resolve record { 0 = c }) reply cites told → (t h : ℕ) → HasInHand (doing_in ds t) h → IsTaking (op.Resolve record { 0 = c }) told h → ⊥
+resolve-takes r s ds (restored o answers clear) c reply cites (resolution_of said freed) k a t h w x = (
     let at = given-at said h x in
     given-apart r s answers ds k at.0 h t (subst (λ z. slice_get z at.0 ≡ Some (said_alive h)) a.2 at.1) w)
-resolve-takes r s ds (restored o answers clear) c cites told k a t h w x = absurd a
-resolve-takes r s ds st c cites told k a t h w x = absurd a
+resolve-takes r s ds (restored o answers clear) c reply cites told k a t h w x = absurd a
+resolve-takes r s ds st c reply cites told k a t h w x = absurd a
 
 driver_takes : (s : Linkage) (reply : Reply) (cites : Option ℕ) → Of s → (o : Op) (told : Told) → IsEvent C o
     → DriverAllows s.control.stand s.managed.managed s.peer.peers.issued o reply cites told → (t h : ℕ) → HasInHand (doing_in s.control.doing t) h → IsTaking o told h → ⊥
 driver_takes s reply cites k (op.Adopt v kind m p g) told e a t h w d = absurd e.0
 driver_takes s reply cites k (op.Meet v sort m p g) told e a t h w d = absurd e.0
-driver_takes s reply cites k (op.Resolve c) told e a t h w d = resolve-takes s.managed s.peer s.control.doing s.control.stand c.0 cites told k.callers a t h w d
+driver_takes s reply cites k (op.Resolve c) told e a t h w d = resolve-takes s.managed s.peer s.control.doing s.control.stand c.0 reply cites told k.callers a t h w d
 driver_takes s reply cites k _ told e a t h w d = d
 
 pub fresh-step : (s : Linkage) (n : Noted) → Of s → MayCome s n → AreFreshHands s → AreFreshHands (linkage_after s n)
@@ -177,7 +177,7 @@ fresh-step s n k may w = by n.entry.made.caller n.entry.made.op n.told may.event
     hand : (u : ℕ) (o : Op) (told : Told) (h : ℕ) → IsEvent (M u) o → Allows (M u) o told → IsTaking o told h → HasInHand (doing_in s.control.doing u) h
     hand u (op.Adopt v kind f p g) told h e a x = subst (HasInHand (doing_in s.control.doing u)) x
         (made-in_hand (doing_in s.control.doing u) g.0 p.0 (adopt-hand (doing_in s.control.doing u) (M u) line v kind f p g n.entry.made.cites a))
-    hand u (op.Meet v sort f p g) told h e a x = subst (HasInHand (doing_in s.control.doing u)) x (meet-hand (doing_in s.control.doing u) line v p g sort f n.entry.made.cites a).0
+    hand u (op.Meet v sort f p g) told h e a x = subst (HasInHand (doing_in s.control.doing u)) x (meet-hand (doing_in s.control.doing u) (M u) line v p g sort f n.entry.made.cites a).0
     hand u (op.Resolve c) told h e a x = absurd e
     hand u _ told h e a x = absurd x
 
@@ -294,7 +294,7 @@ given-step s n k may w = by n.entry.made.caller n.entry.made.op n.told may.event
         hand : (u : ℕ) (o : Op) (told : Told) → IsEvent (M u) o → Allows (M u) o told → IsTaking o told g → HasInHand (doing_in s.control.doing u) g
         hand u (op.Adopt v kind f p h) told e a x = subst (HasInHand (doing_in s.control.doing u)) x
             (made-in_hand (doing_in s.control.doing u) h.0 p.0 (adopt-hand (doing_in s.control.doing u) (M u) line v kind f p h n.entry.made.cites a))
-        hand u (op.Meet v sort f p h) told e a x = subst (HasInHand (doing_in s.control.doing u)) x (meet-hand (doing_in s.control.doing u) line v p h sort f n.entry.made.cites a).0
+        hand u (op.Meet v sort f p h) told e a x = subst (HasInHand (doing_in s.control.doing u)) x (meet-hand (doing_in s.control.doing u) (M u) line v p h sort f n.entry.made.cites a).0
         hand u (op.Resolve c) told e a x = absurd e
         hand u _ told e a x = absurd x
     by (P u) o told e l a i g f c = ⊎_elim (λ q. w i g f q) (λ q. peer_takes_none u o told g e q) (took_now (P u) o told g c)

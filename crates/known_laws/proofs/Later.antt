@@ -11,7 +11,7 @@ use Rattle.joint_machine.specs.declared.lines.Act.TheVariants as act
 use Rattle.joint_machine.specs.declared.events.Op.{Op}
 use Rattle.joint_machine.specs.declared.events.Op.TheVariants as op
 use Rattle.joint_machine.specs.declared.events.Reply.{Reply}
-use Rattle.joint_machine.specs.Control.{control_after}
+use Rattle.joint_machine.specs.Control.{Doing, given as gave, met, control_after, doing_at, ThreadAllows}
 use Rattle.joint_machine.specs.Heaps.{place}
 use Rattle.joint_machine.specs.Lines.{is_peer_event, is_read}
 use Rattle.joint_machine.specs.Linked.{Linkage, opening_linkage, MayCome, linkage_after, managed_after, peer_after}
@@ -84,6 +84,12 @@ pub record DoesAsHandle (s : Linkage) (n : Noted) : Type 0 where
 abbrev noting : ℕ → Thread → ℕ → Op → Reply → Option ℕ → Told → Noted
 noting k t l o r c x = record { entry = record { number = k; made = record { caller = t; index = l; op = o; reply = r; cites = c } }; told = x }
 
+-- what a thread is in the midst of allows one line as another
+line-on : (d : Doing) (t : Thread) (l : ℕ) (a b : Act) (c : Option ℕ) → ThreadAllows d t l (op.Line a) c → ThreadAllows d t l (op.Line b) c
+line-on (gave n line h) t l a b c w = absurd w
+line-on (met n line h) t l a b c w = absurd w
+line-on d t l a b c w = w
+
 pub reader_after_is : (s : Linkage) (n : Noted) → is_read n.entry.made.op ≡ true → ReaderMayCome s n → DoesAsHandle s n
 reader_after_is s n e w = by n.entry.number n.entry.made.caller n.entry.made.index n.entry.made.op n.entry.made.reply n.entry.made.cites n.told e w
   where
@@ -93,13 +99,25 @@ reader_after_is s n e w = by n.entry.number n.entry.made.caller n.entry.made.ind
     by : (k : ℕ) (t : Thread) (l : ℕ) (o : Op) (r : Reply) (c : Option ℕ) (x : Told) → is_read o ≡ true → ReaderMayCome s (noting k t l o r c x) → DoesAsHandle s (noting k t l o r c x)
     by k (M u) l (op.Line (act.Read y)) r c x e w = record {
       note = handle k u l c;
-      comes = record { event = ((w.event.0.0, omega arith), tt); line = w.line; short = w.short; lawful = record { allowed = tt; replies = refl }; order = w.order };
+      comes = record {
+        event = ((w.event.0.0, omega arith), tt);
+        line = w.line;
+        short = w.short;
+        lawful = record { allowed = tt; replies = refl };
+        order = line-on (doing_at s.control u) (M u) l (act.Read y) (act.Handle record { 0 = 0 }) c w.order;
+      };
       same = refl;
       line = (act.Handle record { 0 = 0 }, refl);
     }
     by k (M u) l (op.Line (act.Await y)) r c x e w = record {
       note = handle k u l c;
-      comes = record { event = ((w.event.0.0, omega arith), tt); line = w.line; short = w.short; lawful = record { allowed = tt; replies = refl }; order = w.order };
+      comes = record {
+        event = ((w.event.0.0, omega arith), tt);
+        line = w.line;
+        short = w.short;
+        lawful = record { allowed = tt; replies = refl };
+        order = line-on (doing_at s.control u) (M u) l (act.Await y) (act.Handle record { 0 = 0 }) c w.order;
+      };
       same = refl;
       line = (act.Handle record { 0 = 0 }, refl);
     }

@@ -9,7 +9,7 @@ use Rattle.joint_machine.specs.declared.events.Op.{Op}
 use Rattle.joint_machine.specs.declared.events.Op.TheVariants as op
 use Rattle.joint_machine.specs.declared.events.Made.{Made}
 use Rattle.joint_machine.specs.declared.events.Reply.{Reply}
-use Rattle.joint_machine.specs.Control.{CallerAllows, Stand, snapped, contracted, weakening, marked, restoring, stand_after, control_after, MayContractNow, MayMirrorNow}
+use Rattle.joint_machine.specs.Control.{CallerAllows, Stand, snapped, contracted, weakening, marked, restoring, stand_after, control_after, DriverAllows}
 use Rattle.joint_machine.specs.Lines.{IsEvent, is_peer_event}
 use Rattle.joint_machine.specs.Linked.{Linkage, MayCome, SideLawful, managed_after, peer_after, linkage_after}
 use Rattle.joint_machine.specs.Managed.{Managed}
@@ -56,28 +56,29 @@ cycles-grow s t (snapping p) = let e = ap (λ (z : Managed). z.cycles) p.is in o
 cycles-grow s t (resolving p) = let e = ap (λ (z : Managed). z.cycles) p.is in omega (arith, e)
 cycles-grow s t (abandoning p) = let e = ap (λ (z : Managed). z.cycles) p.is in omega (arith, e)
 
-contract-later : (st : Stand) (ms : List ℕ) (num k : ℕ) (reply : Reply) (cites : Option ℕ) (comps : List (List ℕ)) (heavy : List ℕ) (xrefs : List (ℕ × ℕ))
-    → MayContractNow st k cites → IsLater st ms → IsLater (stand_after st num (op.Contract record { 0 = k }) reply (contraction_of comps heavy xrefs)) ms
-contract-later (snapped o) ms num k reply cites comps heavy xrefs a l = l
-contract-later _ ms num k reply cites comps heavy xrefs a l = absurd a
+contract-later : (st : Stand) (m : Managed) (i : List Issued) (ms : List ℕ) (num k : ℕ) (reply : Reply) (cites : Option ℕ) (comps : List (List ℕ)) (heavy : List ℕ) (xrefs : List (ℕ × ℕ))
+    → DriverAllows st m i (op.Contract record { 0 = k }) reply cites (contraction_of comps heavy xrefs) → IsLater st ms
+    → IsLater (stand_after st num (op.Contract record { 0 = k }) reply (contraction_of comps heavy xrefs)) ms
+contract-later (snapped o) m i ms num k reply cites comps heavy xrefs a l = l
+contract-later _ m i ms num k reply cites comps heavy xrefs a l = absurd a
 
 mirror-later : (st : Stand) (m : Managed) (i : List Issued) (ms : List ℕ) (num k : ℕ) (reply : Reply) (cites : Option ℕ) (told : Told)
-    → MayMirrorNow st m i k cites told → IsLater (stand_after st num (op.Mirror record { 0 = k }) reply told) ms
+    → DriverAllows st m i (op.Mirror record { 0 = k }) reply cites told → IsLater (stand_after st num (op.Mirror record { 0 = k }) reply told) ms
 mirror-later (contracted o comps heavy xrefs) m i ms num k reply cites (references_of refs) a = tt
 mirror-later (contracted o comps heavy xrefs) m i ms num k reply cites _ a = absurd a
 mirror-later _ m i ms num k reply cites told a = absurd a
 
 -- the open cycle's number is the last one opened
-mirror-opened : (r : ManagedReplay) (s : PeerReplay) (st : Stand) (k : ℕ) (cites : Option ℕ) (told : Told)
-    → ReplayInvariant r → DriverInvariant r s st → MayMirrorNow st r.managed s.peers.issued k cites told → k ≤ r.managed.cycles
-mirror-opened r s (contracted o comps heavy xrefs) k cites (references_of refs) kept d a =
+mirror-opened : (r : ManagedReplay) (s : PeerReplay) (st : Stand) (k : ℕ) (reply : Reply) (cites : Option ℕ) (told : Told)
+    → ReplayInvariant r → DriverInvariant r s st → DriverAllows st r.managed s.peers.issued (op.Mirror record { 0 = k }) reply cites told → k ≤ r.managed.cycles
+mirror-opened r s (contracted o comps heavy xrefs) k reply cites (references_of refs) kept d a =
     let c = d.before.opened in
     let l = (kept.managed.dead d.before.cycle c.cycle).latest in
     let e = a.0 in
     let f = c.number in
     omega (arith, l, e, f)
-mirror-opened r s (contracted o comps heavy xrefs) k cites _ kept d a = absurd a
-mirror-opened r s _ k cites told kept d a = absurd a
+mirror-opened r s (contracted o comps heavy xrefs) k reply cites _ kept d a = absurd a
+mirror-opened r s _ k reply cites told kept d a = absurd a
 
 mirrored-list : (s : PeerReplay) (k : ℕ) (cites : Option ℕ) (refs : List (End × End)) (n : ℕ) → Contains (mirrored s k cites refs).mirrors n → Contains s.mirrors n ⊎ (k ≡ n)
 mirrored-list s k None refs n c = inl c
@@ -132,12 +133,12 @@ numbers-step s n k may w = by n.entry.made.caller n.entry.made.op n.told may.eve
     by C (op.Snap c) told e l a g = absurd l.allowed
     by C (op.Contract c) (contraction_of comps heavy xrefs) e l a g = record {
       opened = opened C (op.Contract c) (contraction_of comps heavy xrefs) tt g;
-      later = contract-later s.control.stand s.peer.mirrors num c.0 n.entry.made.reply n.entry.made.cites comps heavy xrefs a w.later;
+      later = contract-later s.control.stand s.managed.managed s.peer.peers.issued s.peer.mirrors num c.0 n.entry.made.reply n.entry.made.cites comps heavy xrefs a w.later;
     }
     by C (op.Contract c) told e l a g = absurd l.allowed
     by C (op.Mirror c) (references_of refs) e l a g = record {
       opened = λ m x. ⊎_elim (λ p. w.opened m p)
-          (λ (p : c.0 ≡ m). let z = mirror-opened s.managed s.peer s.control.stand c.0 n.entry.made.cites (references_of refs) k.managed k.driver a in omega (arith, z, p))
+          (λ (p : c.0 ≡ m). let z = mirror-opened s.managed s.peer s.control.stand c.0 n.entry.made.reply n.entry.made.cites (references_of refs) k.managed k.driver a in omega (arith, z, p))
           (mirrored-list s.peer c.0 n.entry.made.cites refs m x);
       later = mirror-later s.control.stand s.managed.managed s.peer.peers.issued _ num c.0 n.entry.made.reply n.entry.made.cites (references_of refs) a;
     }

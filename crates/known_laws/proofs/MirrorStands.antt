@@ -13,7 +13,7 @@ use Rattle.joint_machine.specs.declared.events.Made.{Made}
 use Rattle.joint_machine.specs.declared.events.Reply.{Reply}
 use Rattle.joint_machine.specs.declared.events.Reply.TheVariants as says
 use Rattle.joint_machine.specs.Control.{CallerAllows, OpenSnap, Stand, idle, snapped, contracted, weakening, marked, restoring, restored, stand_after, control_after, IsCandidateHandle, answer_in}
-use Rattle.joint_machine.specs.Control.{MayContractNow, MayMirrorNow, MayWeakenNow, MayBeginNow, MaySweepNow, MayRestoreNow, MayClearNow}
+use Rattle.joint_machine.specs.Control.{DriverAllows}
 use Rattle.joint_machine.specs.Lines.{IsEvent, is_peer_event}
 use Rattle.joint_machine.specs.Linked.{Linkage, MayCome, SideLawful, managed_after, peer_after, linkage_after}
 use Rattle.joint_machine.specs.Managed.{Managed, OpenCycle, handle_of, candidates_of}
@@ -197,39 +197,43 @@ restored-mirror s h x row reply e q m f = restored-cases (λ a. reply ≡ a.repl
 -- the driver's entries
 module _ (r : ManagedReplay) (s t : PeerReplay) (num : ℕ) (reply : Reply) (cites : Option ℕ) (told : Told) where
   mirror-fits : (st : Stand) (k : ℕ) (refs : List (End × End)) → t ≡ mirrored s k cites refs
-      → MayMirrorNow st r.managed s.peers.issued k cites (references_of refs) → MirrorFits r t (stand_after st num (op.Mirror record { 0 = k }) reply told)
+      → DriverAllows st r.managed s.peers.issued (op.Mirror record { 0 = k }) reply cites (references_of refs)
+      → MirrorFits r t (stand_after st num (op.Mirror record { 0 = k }) reply told)
   mirror-fits (contracted o comps heavy xrefs) k refs e a = subst (λ z. IsMirrorOf r z o 0 []) (sym e) (begun_mirror r s o k refs cites a.0 a.1)
   mirror-fits _ k refs e a = absurd a
 
   weaken-fits : (st : Stand) (h : ℕ) → ((m : Mirror) → s.mirror ≡ Some m → t.mirror ≡ Some (record m { weakened = m.weakened ++ h ∷ [] }))
-      → MayWeakenNow st r.managed h cites → MirrorFits r s st → MirrorFits r t (stand_after st num (op.Weaken record { 0 = h }) reply told)
+      → DriverAllows st r.managed s.peers.issued (op.Weaken record { 0 = h }) reply cites told → MirrorFits r s st → MirrorFits r t (stand_after st num (op.Weaken record { 0 = h }) reply told)
   weaken-fits (weakening o count x y) h e a m = weakened_mirror r s t o count [] h e a.2 m
   weaken-fits _ h e a m = absurd a
 
-  begin-fits : (st : Stand) (reply : Reply) → t.mirror ≡ s.mirror → MayBeginNow st (length (candidates_of r.managed)) reply cites
+  begin-fits : (st : Stand) (reply : Reply) → t.mirror ≡ s.mirror → DriverAllows st r.managed s.peers.issued op.Begin reply cites told
       → MirrorFits r s st → MirrorFits r t (stand_after st num op.Begin reply told)
   begin-fits (weakening o count x y) (says.Mark j) e a m = subst (λ n. IsMirrorOf r t o n []) a.0 (mirror_on r r s t o count [] (same_candidates r.managed) e m)
   begin-fits (weakening o count x y) _ e a m = absurd a
   begin-fits _ reply e a m = absurd a
 
-  sweep-fits : (st : Stand) → t.mirror ≡ s.mirror → MaySweepNow st (length (candidates_of r.managed)) cites → MirrorFits r s st → MirrorFits r t (stand_after st num op.Sweep reply told)
+  sweep-fits : (st : Stand) → t.mirror ≡ s.mirror → DriverAllows st r.managed s.peers.issued op.Sweep reply cites told
+      → MirrorFits r s st → MirrorFits r t (stand_after st num op.Sweep reply told)
   sweep-fits (weakening o count x y) e a m = mirror_on r r s t o count [] (same_candidates r.managed) e m
   sweep-fits (marked o) e a m = mirror_on r r s t o _ [] (same_candidates r.managed) e m
   sweep-fits _ e a m = absurd a
 
   restore-fits : (st : Stand) (h : ℕ) → ((m : Mirror) → s.mirror ≡ Some m → (n : Mirror) × (t.mirror ≡ Some n) × IsRestoredOf m n h (answer_in reply))
-      → MayRestoreNow st r.managed h cites → MirrorFits r s st → MirrorFits r t (stand_after st num (op.Restore record { 0 = h }) reply told)
+      → DriverAllows st r.managed s.peers.issued (op.Restore record { 0 = h }) reply cites told → MirrorFits r s st → MirrorFits r t (stand_after st num (op.Restore record { 0 = h }) reply told)
   restore-fits (restoring o answers) h e a m = restored_mirror r s t o _ answers (answer_in reply) h e a.1 m
   restore-fits _ h e a m = absurd a
 
-  clear-fits : (st : Stand) (k : ℕ) → MayClearNow st (length (candidates_of r.managed)) k cites → MirrorFits r t (stand_after st num (op.Clear record { 0 = k }) reply told)
+  clear-fits : (st : Stand) (k : ℕ) → DriverAllows st r.managed s.peers.issued (op.Clear record { 0 = k }) reply cites told
+      → MirrorFits r t (stand_after st num (op.Clear record { 0 = k }) reply told)
   clear-fits (restoring o answers) k a = tt
   clear-fits _ k a = absurd a
 
-contract-fits : (r : ManagedReplay) (s : PeerReplay) (num : ℕ) (reply : Reply) (cites : Option ℕ) (comps : List (List ℕ)) (heavy : List ℕ) (xrefs : List (ℕ × ℕ)) (st : Stand) (k : ℕ)
-    → MayContractNow st k cites → MirrorFits r s (stand_after st num (op.Contract record { 0 = k }) reply (contraction_of comps heavy xrefs))
-contract-fits r s num reply cites comps heavy xrefs (snapped o) k a = tt
-contract-fits r s num reply cites comps heavy xrefs _ k a = absurd a
+contract-fits : (r : ManagedReplay) (s : PeerReplay) (m : Managed) (num : ℕ) (reply : Reply) (cites : Option ℕ) (comps : List (List ℕ)) (heavy : List ℕ) (xrefs : List (ℕ × ℕ)) (st : Stand) (k : ℕ)
+    → DriverAllows st m s.peers.issued (op.Contract record { 0 = k }) reply cites (contraction_of comps heavy xrefs)
+    → MirrorFits r s (stand_after st num (op.Contract record { 0 = k }) reply (contraction_of comps heavy xrefs))
+contract-fits r s m num reply cites comps heavy xrefs (snapped o) k a = tt
+contract-fits r s m num reply cites comps heavy xrefs _ k a = absurd a
 
 pub mirror-step : (s : Linkage) (n : Noted) → Of s → MayCome s n → MirrorFits s.managed s.peer s.control.stand
     → MirrorFits (linkage_after s n).managed (linkage_after s n).peer (linkage_after s n).control.stand
@@ -265,7 +269,7 @@ mirror-step s n k may fits = by n.entry.made.caller n.entry.made.op n.told may.e
         (goes-same s.managed.managed (R C (op.Line x) told).managed k.managed.managed (managed_line-goes_on s.managed.managed (thread_number C) x k.managed.managed.places k.managed.managed.cells))
         refl fits
     by C (op.Snap c) told e l a = tt
-    by C (op.Contract c) (contraction_of comps heavy xrefs) e l a = contract-fits _ s.peer num n.entry.made.reply n.entry.made.cites comps heavy xrefs s.control.stand c.0 a
+    by C (op.Contract c) (contraction_of comps heavy xrefs) e l a = contract-fits _ s.peer s.managed.managed num n.entry.made.reply n.entry.made.cites comps heavy xrefs s.control.stand c.0 a
     by C (op.Contract c) told e l a = absurd l.allowed
     by C (op.Mirror c) (references_of refs) e l a = mirror-fits s.managed s.peer
         (S C (op.Mirror c) (references_of refs)) num n.entry.made.reply n.entry.made.cites (references_of refs) s.control.stand c.0 refs refl a

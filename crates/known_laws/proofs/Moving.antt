@@ -10,9 +10,10 @@ use Rattle.joint_machine.specs.declared.lines.Act.TheVariants as act
 use Rattle.joint_machine.specs.declared.events.Op.{Op}
 use Rattle.joint_machine.specs.declared.events.Op.TheVariants as op
 use Rattle.joint_machine.specs.declared.events.Reply.{Reply}
+use Rattle.joint_machine.specs.declared.events.Reply.TheVariants as says
 use Rattle.joint_machine.specs.Components.{mirror_edges}
-use Rattle.joint_machine.specs.Control.{free, Stand, OpenSnap, contracted, weakening, restoring, caller_place, carried_edges, IsCandidateHandle, CallerAllows, DriverAllows, ThreadAllows, IsAtRest}
-use Rattle.joint_machine.specs.Control.{MayMirrorNow, MayWeakenNow, MayBeginNow, MaySweepNow, MayRestoreNow, MayClearNow, MayRefuseNow}
+use Rattle.joint_machine.specs.Control.{free, Stand, OpenSnap, idle, snapped, contracted, weakening, marked, restoring, restored, caller_place, carried_edges, IsCandidateHandle, IsAtRest, IsPhaseOf}
+use Rattle.joint_machine.specs.Control.{CallerAllows, DriverAllows, ThreadAllows}
 use Rattle.joint_machine.specs.Lines.{IsEvent, is_peer_event, is_read}
 use Rattle.joint_machine.specs.PinsTold.{is_pinned, bare_told, no_pins, pins_told, tells_pins, with_pins}
 use Rattle.joint_machine.specs.Linked.{SideLawful, PeerLawful, ManagedLawful}
@@ -21,7 +22,7 @@ use Rattle.joint_machine.specs.ManagedReplay.{ManagedReplay}
 use Rattle.joint_machine.specs.PeerReplay.{PeerReplay}
 use Rattle.joint_machine.specs.Peers.{Issued}
 use Rattle.joint_machine.specs.Readers.{ReaderMayCome}
-use Rattle.joint_machine.specs.Told.{Told, Noted, references_of, kept_pins}
+use Rattle.joint_machine.specs.Told.{Told, Noted, references_of, resolution_of, phase_of, kept_pins}
 use Rattle.known_laws.specs.Known.{MayComeLater, Comes, SideMayCome, PinsStand, given}
 use Rattle.known_laws.specs.PastEntries.{TellsPlainly}
 use Rattle.known_laws.proofs.Pinned.{none_stand}
@@ -36,35 +37,23 @@ pub record Alike (st : Stand) (m m' : Managed) : Type 0 where
   pub edges : (o : OpenSnap) (comps : List (List ℕ)) (heavy : List ℕ) (xrefs : List (ℕ × ℕ)) (issued : List Issued)
       → st ≡ contracted o comps heavy xrefs → carried_edges m issued (mirror_edges comps xrefs) ≡ carried_edges m' issued (mirror_edges comps xrefs)
 
-mirror_move : (st : Stand) (m m' : Managed) (i i' : List Issued) (k : ℕ) (cites : Option ℕ) (told : Told)
-    → Alike st m m' → i ≡ i' → MayMirrorNow st m i k cites told → MayMirrorNow st m' i' k cites told
-mirror_move (contracted o comps heavy xrefs) m m' i i' k cites (references_of refs) a e w =
-    (w.0, w.1, w.2 ∙ (a.edges o comps heavy xrefs i refl ∙ ap (λ z. carried_edges m' z (mirror_edges comps xrefs)) e))
-mirror_move (contracted o comps heavy xrefs) m m' i i' k cites _ a e w = absurd w
-mirror_move _ m m' i i' k cites told a e w = absurd w
-
-weaken_move : (st : Stand) (m m' : Managed) (h : ℕ) (cites : Option ℕ) → Alike st m m' → MayWeakenNow st m h cites → MayWeakenNow st m' h cites
-weaken_move (weakening o count x y) m m' h cites a w = (w.0, w.1, a.handles count h w.2)
-weaken_move _ m m' h cites a w = absurd w
-
-restore_move : (st : Stand) (m m' : Managed) (h : ℕ) (cites : Option ℕ) → Alike st m m' → MayRestoreNow st m h cites → MayRestoreNow st m' h cites
-restore_move (restoring o answers) m m' h cites a w = (w.0, a.handles (length answers) h w.1)
-restore_move _ m m' h cites a w = absurd w
-
 pub driver_move : (st : Stand) (m m' : Managed) (i i' : List Issued) (o : Op) (reply : Reply) (cites : Option ℕ) (told : Told)
     → Alike st m m' → (is_peer_event C o ≡ true → i ≡ i') → DriverAllows st m i o reply cites told → DriverAllows st m' i' o reply cites told
 driver_move st m m' i i' (op.Line x) reply cites told a e w = (subst (λ z. IsAtRest st (length z)) a.candidates w.0, w.1)
-driver_move st m m' i i' (op.Snap k) reply cites told a e w = w
-driver_move st m m' i i' (op.Contract k) reply cites told a e w = w
-driver_move st m m' i i' (op.Mirror k) reply cites told a e w = mirror_move st m m' i i' k.0 cites told a (e refl) w
-driver_move st m m' i i' (op.Weaken h) reply cites told a e w = weaken_move st m m' h.0 cites a w
-driver_move st m m' i i' op.Begin reply cites told a e w = subst (λ z. MayBeginNow st (length z) reply cites) a.candidates w
-driver_move st m m' i i' op.Sweep reply cites told a e w = subst (λ z. MaySweepNow st (length z) cites) a.candidates w
-driver_move st m m' i i' (op.Restore h) reply cites told a e w = restore_move st m m' h.0 cites a w
-driver_move st m m' i i' (op.Clear k) reply cites told a e w = subst (λ z. MayClearNow st (length z) k.0 cites) a.candidates w
-driver_move st m m' i i' (op.Resolve k) reply cites told a e w = w
-driver_move st m m' i i' (op.Abandon k) reply cites told a e w = w
-driver_move st m m' i i' (op.Refused r) reply cites told a e w = subst (λ z. MayRefuseNow st (length z) cites told) a.candidates w
+driver_move idle m m' i i' (op.Snap k) reply cites told a e w = w
+driver_move (snapped o) m m' i i' (op.Contract k) reply cites told a e w = w
+driver_move (contracted o comps heavy xrefs) m m' i i' (op.Mirror k) reply cites (references_of refs) a e w =
+    (w.0, w.1, w.2 ∙ (a.edges o comps heavy xrefs i refl ∙ ap (λ z. carried_edges m' z (mirror_edges comps xrefs)) (e refl)))
+driver_move (weakening o count x y) m m' i i' (op.Weaken h) reply cites told a e w = (w.0, w.1, a.handles count h.0 w.2)
+driver_move (weakening o count x y) m m' i i' op.Begin (says.Mark j) cites told a e w = (w.0 ∙ ap length a.candidates, w.1)
+driver_move (weakening o count x y) m m' i i' op.Sweep reply cites told a e w = (w.0 ∙ ap length a.candidates, w.1, w.2)
+driver_move (marked o) m m' i i' op.Sweep reply cites told a e w = w
+driver_move (restoring o answers) m m' i i' (op.Restore h) reply cites told a e w = (w.0, a.handles (length answers) h.0 w.1)
+driver_move (restoring o answers) m m' i i' (op.Clear k) reply cites told a e w = (w.0, w.1 ∙ ap length a.candidates, w.2)
+driver_move (restored o answers clear) m m' i i' (op.Resolve k) reply cites (resolution_of said freed) a e w = w
+driver_move (snapped o) m m' i i' (op.Abandon k) reply cites told a e w = w
+driver_move (contracted o comps heavy xrefs) m m' i i' (op.Abandon k) reply cites told a e w = w
+driver_move st m m' i i' (op.Refused r) reply cites (phase_of p) a e w = (subst (λ z. IsPhaseOf st (length z) p) a.candidates w.0, w.1)
 driver_move st m m' i i' _ reply cites told a e w = absurd w
 
 alike_same : (st : Stand) (m m' : Managed) → m ≡ m' → Alike st m m'

@@ -7,7 +7,7 @@ use Rattle.joint_machine.specs.declared.events.Op.{Op}
 use Rattle.joint_machine.specs.declared.events.Op.TheVariants as op
 use Rattle.joint_machine.specs.declared.events.Made.{Made}
 use Rattle.joint_machine.specs.declared.events.Reply.{Reply}
-use Rattle.joint_machine.specs.Control.{CallerAllows, DriverAllows, OpenSnap, Stand, weakening, marked, stand_after, control_after, MayBeginNow}
+use Rattle.joint_machine.specs.Control.{CallerAllows, DriverAllows, OpenSnap, Stand, weakening, marked, stand_after, control_after}
 use Rattle.joint_machine.specs.Lines.{is_peer_event}
 use Rattle.joint_machine.specs.Linked.{Linkage, MayCome, peer_after, linkage_after}
 use Rattle.joint_machine.specs.Managed.{Managed}
@@ -34,9 +34,10 @@ stays w m i num op.Begin reply cites told y a = absurd y
 stays w m i num op.Sweep reply cites told y a = absurd y
 stays w m i num o reply cites told y a = absurd a
 
-begins : (st : Stand) (c num : ℕ) (reply : Reply) (cites : Option ℕ) (told : Told) → MayBeginNow st c reply cites → (o : OpenSnap) × (stand_after st num op.Begin reply told ≡ marked o)
-begins (weakening o count x y) c num reply cites told a = (o, refl)
-begins _ c num reply cites told a = absurd a
+begins : (st : Stand) (m : Managed) (i : List Issued) (num : ℕ) (reply : Reply) (cites : Option ℕ) (told : Told)
+    → DriverAllows st m i op.Begin reply cites told → (o : OpenSnap) × (stand_after st num op.Begin reply told ≡ marked o)
+begins (weakening o count x y) m i num reply cites told a = (o, refl)
+begins _ m i num reply cites told a = absurd a
 
 not_begin : (o : Op) → IsAside o → o ≡ op.Begin → ⊥
 not_begin o x e = subst IsAside e x
@@ -75,7 +76,7 @@ marking-step s n k may w = by n.entry.made.caller n.entry.made.op n.told may.ord
     by : (t : Thread) (o : Op) (told : Told) → Allows t o told → Goal t o told
     by (M u) o told a mk e c = others (M u) o told (λ z. cc) mk e c
     by (P u) o told a mk e c = others (P u) o told (λ z. cc) mk e c
-    by C op.Begin told a mk e c = begins s.control.stand _ num n.entry.made.reply n.entry.made.cites told a
+    by C op.Begin told a mk e c = begins s.control.stand s.managed.managed s.peer.peers.issued num n.entry.made.reply n.entry.made.cites told a
     by C op.Sweep (sweep_of freed) a mk e c = absurd (none_some mk (sym (swept-closed s.peer s.peer.marking freed refl) ∙ e))
     by C op.Sweep told a mk e c = absurd (none_some mk (sym (swept-closed s.peer s.peer.marking [] refl) ∙ e))
     by C o told a mk e c = own o told tt a mk e c

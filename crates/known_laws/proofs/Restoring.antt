@@ -21,10 +21,10 @@ use Rattle.joint_machine.specs.declared.events.Op.{Op}
 use Rattle.joint_machine.specs.declared.events.Op.TheVariants as op
 use Rattle.joint_machine.specs.declared.events.Reply.{Reply}
 use Rattle.joint_machine.specs.declared.events.Made.{Made}
-use Rattle.joint_machine.specs.Control.{Stand, idle, snapped, contracted, weakening, marked, restoring, restored, CallerAllows, stand_after, control_after, answer_in, IsCandidateHandle, MayRestoreNow}
-use Rattle.joint_machine.specs.Control.{MayResolveNow}
+use Rattle.joint_machine.specs.Control.{Stand, idle, snapped, contracted, weakening, marked, restoring, restored, CallerAllows, stand_after, control_after, answer_in, IsCandidateHandle, DriverAllows}
 use Rattle.joint_machine.specs.Cycles.{IsAnsweredAlive}
 use Rattle.joint_machine.specs.Managed.{Managed, OpenCycle, Holds, handle_of, candidates_of, resolved}
+use Rattle.joint_machine.specs.Peers.{Issued}
 use Rattle.joint_machine.specs.Components.{Rises}
 use Rattle.joint_machine.proofs.Members.{Contains-at}
 use Rattle.joint_laws.proofs.Renewing.{renewed-given}
@@ -83,10 +83,11 @@ restore-push m rs answers h a r c = record {
       (push-at_cases rs (h, a) i (g, b) e);
 }
 
-restore-by : (m : Managed) (rs : List (ℕ × Answer)) (num : ℕ) (reply : Reply) (cites : Option ℕ) (told : Told) (st : Stand) (h : ℕ) → MayRestoreNow st m h cites
-    → RestoredBy m rs st → RestoredBy m (rs ++ (h, answer_in reply) ∷ []) (stand_after st num (op.Restore record { 0 = h }) reply told)
-restore-by m rs num reply cites told (restoring o answers) h a r = restore-push m rs answers h (answer_in reply) r a.1
-restore-by m rs num reply cites told _ h a r = absurd a
+restore-by : (m : Managed) (i : List Issued) (rs : List (ℕ × Answer)) (num : ℕ) (reply : Reply) (cites : Option ℕ) (told : Told) (st : Stand) (h : ℕ)
+    → DriverAllows st m i (op.Restore record { 0 = h }) reply cites told → RestoredBy m rs st
+    → RestoredBy m (rs ++ (h, answer_in reply) ∷ []) (stand_after st num (op.Restore record { 0 = h }) reply told)
+restore-by m i rs num reply cites told (restoring o answers) h a r = restore-push m rs answers h (answer_in reply) r a.1
+restore-by m i rs num reply cites told _ h a r = absurd a
 
 -- the events that begin no restores anew, and are none
 abbrev IsStill : Op → Type 0
@@ -166,7 +167,7 @@ restored-step s n rs k may r = by n.entry.made.caller n.entry.made.op n.told may
     by C (op.Weaken h) told e l a = still (op.Weaken h) told tt
     by C op.Begin told e l a = still op.Begin told tt
     by C op.Sweep told e l a = still op.Sweep told tt
-    by C (op.Restore h) told e l a = restore-by s.managed.managed rs n.entry.number n.entry.made.reply n.entry.made.cites told s.control.stand h.0 a r
+    by C (op.Restore h) told e l a = restore-by s.managed.managed s.peer.peers.issued rs n.entry.number n.entry.made.reply n.entry.made.cites told s.control.stand h.0 a r
     by C (op.Clear c) told e l a = still (op.Clear c) told tt
     by C (op.Resolve c) told e l a = tt
     by C (op.Abandon c) told e l a = tt
@@ -243,9 +244,9 @@ module _ (m : Managed) (c : OpenCycle) (o : m.cycle ≡ Some c) (rs : List (ℕ 
     (w.kept.0, ap (λ l. slice_get l w.place) (sym r.same) ∙ (slice_get-map (λ (z : ℕ × Answer). z.1) rs w.place ∙ (ap (option_map (λ (z : ℕ × Answer). z.1)) w.answered ∙ ap (λ z. Some z) w.kept.1))),
   )
 
-resolve-by : (s : ManagedReplay) (rs : List (ℕ × Answer)) (st : Stand) (k : Cycle) (cites : Option ℕ) (told : Told)
-    → RestoredBy s.managed rs st → MayResolveNow st k.0 cites told → ManagedAllows s (op.Resolve k) told → FreesByRestores s.managed rs told k.0
-resolve-by s rs (restored o answers clear) k cites (resolution_of alive freed) r a w =
+resolve-by : (s : ManagedReplay) (i : List Issued) (rs : List (ℕ × Answer)) (st : Stand) (k : Cycle) (reply : Reply) (cites : Option ℕ) (told : Told)
+    → RestoredBy s.managed rs st → DriverAllows st s.managed i (op.Resolve k) reply cites told → ManagedAllows s (op.Resolve k) told → FreesByRestores s.managed rs told k.0
+resolve-by s i rs (restored o answers clear) k reply cites (resolution_of alive freed) r a w =
     let q : AreRestored s.managed rs alive = subst (AreRestored s.managed rs) (sym a.2) r in
     record {
       cycle = w.cycle;
@@ -260,8 +261,8 @@ resolve-by s rs (restored o answers clear) k cites (resolution_of alive freed) r
         λ c. (w.resolution.frees m).1 (c.0, λ z. c.1 (z.0, alive-to s.managed w.cycle w.open_cycle.0 rs alive q z.0 z.1, z.2)),
       );
     }
-resolve-by s rs (restored o answers clear) k cites told r a w = absurd a
-resolve-by s rs st k cites told r a w = absurd a
+resolve-by s i rs (restored o answers clear) k reply cites told r a w = absurd a
+resolve-by s i rs st k reply cites told r a w = absurd a
 
 -- what a resolve asks for, it asks for without pins
 resolve_allowed : (x : Noted) (h : List Noted) (l : Lawful (x ∷ h)) (k : Cycle) → x.entry.made.op ≡ op.Resolve k → ManagedAllows (end_of h).managed (op.Resolve k) (bare_told x.told)
@@ -280,21 +281,22 @@ resolves_free_by_restores x h l k e = by x.entry.made.caller (subst (IsEvent x.e
     by : (t : Thread) → IsEvent t (op.Resolve k) → CallerAllows (end_of h).control (end_of h).managed.managed
         (end_of h).peer.peers.issued t x.entry.made.index (op.Resolve k) x.entry.made.reply x.entry.made.cites (bare_told x.told)
         → FreesByRestores (end_of h).managed.managed (restores_in h) (bare_told x.told) k.0
-    by C v a = resolve-by (end_of h).managed (restores_in h) (end_of h).control.stand k x.entry.made.cites (bare_told x.told) (restored_in h l.1) a (resolve_allowed x h l k e)
+    by C v a = resolve-by (end_of h).managed (end_of h).peer.peers.issued (restores_in h) (end_of h).control.stand k
+        x.entry.made.reply x.entry.made.cites (bare_told x.told) (restored_in h l.1) a (resolve_allowed x h l k e)
     by (M u) v a = absurd v
     by (P u) v a = absurd v
 
 -- the resolve of a past, by where the driver stands behind it
-cleared-by : (s : Linkage) → PastInvariant s → (rs : List (ℕ × Answer)) (st : Stand) (k : Cycle) (cites : Option ℕ) (answers : List Answer) (freed : List ℕ)
-    → s.control.stand ≡ st → RestoredBy s.managed.managed rs st → MayResolveNow st k.0 cites (resolution_of answers freed)
+cleared-by : (s : Linkage) → PastInvariant s → (rs : List (ℕ × Answer)) (st : Stand) (k : Cycle) (reply : Reply) (cites : Option ℕ) (answers : List Answer) (freed : List ℕ)
+    → s.control.stand ≡ st → RestoredBy s.managed.managed rs st → DriverAllows st s.managed.managed s.peer.peers.issued (op.Resolve k) reply cites (resolution_of answers freed)
     → ManagedAllows s.managed (op.Resolve k) (resolution_of answers freed) → (i g m : ℕ) (a : Answer)
     → slice_get rs i ≡ Some (g, a) → slice_get (candidates_of s.managed.managed) i ≡ Some m → Contains freed m ↔ (a ≡ said_cleared)
-cleared-by s kept rs (restored o told clear) k cites answers freed e r w v i g m a at c =
+cleared-by s kept rs (restored o told clear) k reply cites answers freed e r w v i g m a at c =
     let v' : MayResolve s.managed k.0 told freed = subst (λ z. MayResolve s.managed k.0 z freed) w.2 v in
     let answered : slice_get told i ≡ Some a = ap (λ l. slice_get l i) (sym r.same) ∙ (slice_get-map (λ (z : ℕ × Answer). z.1) rs i ∙ ap (option_map (λ (z : ℕ × Answer). z.1)) at) in
     let f = resolve_frees_cleared s kept o told clear e k.0 freed v' i m c in
     (λ d. same_Some _ _ (sym answered ∙ f.0 d), λ d. f.1 (answered ∙ ap Some d))
-cleared-by s kept rs st k cites answers freed e r w v i g m a at c = absurd w
+cleared-by s kept rs st k reply cites answers freed e r w v i g m a at c = absurd w
 
 pub resolves_free_cleared : ResolvesFreeCleared
 resolves_free_cleared x h l k e answers freed t = by x.entry.made.caller (subst (IsEvent x.entry.made.caller) e (event_of x h l))
@@ -307,7 +309,7 @@ resolves_free_cleared x h l k e answers freed t = by x.entry.made.caller (subst 
 
     by : (u : Thread) → IsEvent u (op.Resolve k) → CallerAllows (end_of h).control (end_of h).managed.managed
         (end_of h).peer.peers.issued u x.entry.made.index (op.Resolve k) x.entry.made.reply x.entry.made.cites (resolution_of answers freed) → Frees
-    by C v a = cleared-by (end_of h) (past_invariant_holds h l.1) (restores_in h) (end_of h).control.stand k x.entry.made.cites answers freed refl
+    by C v a = cleared-by (end_of h) (past_invariant_holds h l.1) (restores_in h) (end_of h).control.stand k x.entry.made.reply x.entry.made.cites answers freed refl
         (restored_in h l.1) a (subst (ManagedAllows (end_of h).managed (op.Resolve k)) t (resolve_allowed x h l k e))
     by (M u) v a = absurd v
     by (P u) v a = absurd v

@@ -21,7 +21,7 @@ use Rattle.joint_machine.specs.declared.names.PhaseWord.{PhaseWord}
 use Rattle.joint_machine.specs.declared.names.PhaseWord.TheVariants as word
 use Rattle.joint_machine.specs.declared.events.Entry.{Entry}
 use Rattle.joint_machine.specs.Components.{Rises, End}
-use Rattle.joint_machine.specs.Control.{Stand, idle, snapped, contracted, weakening, marked, restoring, restored, CallerAllows, IsPhaseOf, MayMirrorNow, MayResolveNow}
+use Rattle.joint_machine.specs.Control.{Stand, idle, snapped, contracted, weakening, marked, restoring, restored, CallerAllows, IsPhaseOf, DriverAllows}
 use Rattle.joint_machine.specs.Lines.{IsEvent, is_peer_event}
 use Rattle.joint_machine.specs.Linked.{Linkage, MayCome, SideLawful}
 use Rattle.joint_machine.specs.Cycles.{IsDeadContraction, IsAnsweredAlive}
@@ -143,14 +143,15 @@ peer_told s t o cites nothing nothing w v r = refl
 peer_told s t o cites nothing _ w v r = absurd v
 peer_told s t o cites _ b w v r = absurd w
 
-pub mirrors : (st : Stand) (m : Managed) (i : List Issued) (k : ℕ) (cites : Option ℕ) (xs ys : List (End × End))
-    → MayMirrorNow st m i k cites (references_of xs) → MayMirrorNow st m i k cites (references_of ys) → xs ≡ ys
-mirrors (contracted o comps heavy xrefs) m i k cites xs ys w v = w.2 ∙ sym v.2
-mirrors _ m i k cites xs ys w v = absurd w
+pub mirrors : (st : Stand) (m : Managed) (i : List Issued) (k : Cycle) (r r' : Reply) (cites : Option ℕ) (xs ys : List (End × End))
+    → DriverAllows st m i (op.Mirror k) r cites (references_of xs) → DriverAllows st m i (op.Mirror k) r' cites (references_of ys) → xs ≡ ys
+mirrors (contracted o comps heavy xrefs) m i k r r' cites xs ys w v = w.2 ∙ sym v.2
+mirrors _ m i k r r' cites xs ys w v = absurd w
 
-pub resolves_alike : (st : Stand) (k : ℕ) (cites : Option ℕ) (x y : List Answer) (f g : List ℕ) → MayResolveNow st k cites (resolution_of x f) → MayResolveNow st k cites (resolution_of y g) → x ≡ y
-resolves_alike (restored o answers clear) k cites x y f g w v = w.2 ∙ sym v.2
-resolves_alike _ k cites x y f g w v = absurd w
+pub resolves_alike : (st : Stand) (m : Managed) (i : List Issued) (k : Cycle) (r r' : Reply) (cites : Option ℕ) (x y : List Answer) (f g : List ℕ)
+    → DriverAllows st m i (op.Resolve k) r cites (resolution_of x f) → DriverAllows st m i (op.Resolve k) r' cites (resolution_of y g) → x ≡ y
+resolves_alike (restored o answers clear) m i k r r' cites x y f g w v = w.2 ∙ sym v.2
+resolves_alike _ m i k r r' cites x y f g w v = absurd w
 
 telling_is_one : IsOneContraction → (s : Linkage) (e : Entry) (t u : Told) → IsTelling e.made.op → MayCome s (record { entry = e; told = t }) → MayCome s (record { entry = e; told = u }) → t ≡ u
 telling_is_one cu s e t u n a b = by (is_peer_event e.made.caller e.made.op) a.lawful b.lawful
@@ -159,13 +160,13 @@ telling_is_one cu s e t u n a b = by (is_peer_event e.made.caller e.made.op) a.l
     Allowed c o z = CallerAllows s.control s.managed.managed s.peer.peers.issued c e.made.index o e.made.reply e.made.cites z
 
     refs : (c : Thread) (k : Cycle) (xs ys : List (End × End)) → IsEvent c (op.Mirror k) → Allowed c (op.Mirror k) (references_of xs) → Allowed c (op.Mirror k) (references_of ys) → xs ≡ ys
-    refs C k xs ys v w x = mirrors s.control.stand s.managed.managed s.peer.peers.issued k.0 e.made.cites xs ys w x
+    refs C k xs ys v w x = mirrors s.control.stand s.managed.managed s.peer.peers.issued k e.made.reply e.made.reply e.made.cites xs ys w x
     refs (M z) k xs ys v w x = absurd v
     refs (P z) k xs ys v w x = absurd v
 
     answers : (c : Thread) (k : Cycle) (x y : List Answer) (f g : List ℕ) → IsEvent c (op.Resolve k)
         → Allowed c (op.Resolve k) (resolution_of x f) → Allowed c (op.Resolve k) (resolution_of y g) → x ≡ y
-    answers C k x y f g v w z = resolves_alike s.control.stand k.0 e.made.cites x y f g w z
+    answers C k x y f g v w z = resolves_alike s.control.stand s.managed.managed s.peer.peers.issued k e.made.reply e.made.reply e.made.cites x y f g w z
     answers (M j) k x y f g v w z = absurd v
     answers (P j) k x y f g v w z = absurd v
 

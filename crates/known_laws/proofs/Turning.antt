@@ -13,11 +13,11 @@ use Rattle.joint_machine.specs.declared.names.Thread.TheVariants.{M, P, C}
 use Rattle.joint_machine.specs.declared.events.Op.{Op}
 use Rattle.joint_machine.specs.declared.events.Op.TheVariants as op
 use Rattle.joint_machine.specs.declared.events.Reply.{Reply}
-use Rattle.joint_machine.specs.Control.{Doing, free, made, lent, gripped, given, met, Stand, doing_at, IsDone, MayStart, ThreadAllows, DriverAllows, CallerAllows}
+use Rattle.joint_machine.specs.Control.{Doing, given, met, Stand, doing_at, IsDone, ThreadAllows, DriverAllows, CallerAllows}
 use Rattle.joint_machine.specs.Linked.{Linkage, SideLawful, PeerLawful}
 use Rattle.joint_machine.specs.Told.{Told, Noted, nothing}
 use Rattle.joint_machine.specs.PinsTold.{bare_told, pins_told, tells_pins}
-use Rattle.known_laws.specs.Turns.{SideEntryComes, ReaderEntryComes, ThreadTurn, DriverTurn, ThreadsHaveTurns, DriverHasTurns}
+use Rattle.known_laws.specs.Turns.{SideEntryComes, ReaderEntryComes, OpensOperation, ThreadTurn, DriverTurn, ThreadsHaveTurns, DriverHasTurns}
 
 pub side_entry_comes : SideEntryComes
 side_entry_comes s number m told line short order stand side = ⊎_elim
@@ -48,13 +48,14 @@ side_entry_comes s number m told line short order stand side = ⊎_elim
     turn : CallerAllows s.control (given_pins s told).managed.managed s.peer.peers.issued m.caller m.index m.op m.reply m.cites (bare_told told)
     turn = turn_same (pins_told told) s.control s.managed.managed s.peer.peers.issued m.caller m.index m.op m.reply m.cites (bare_told told) order
 
-pub starts : (d : Doing) → IsDone d → MayStart d None
-starts free w = refl
-starts (made n line p h sort f) w = refl
-starts (lent n line h x) w = refl
-starts (gripped n line p h sort f) w = refl
-starts (given n line h) w = absurd w
-starts (met n line h) w = absurd w
+pub starts : (d : Doing) (t : Thread) (l : ℕ) (o : Op) → OpensOperation o → IsDone d → ThreadAllows d t l o None
+starts (given n line h) t l o f w = absurd w
+starts (met n line h) t l o f w = absurd w
+starts d t l (op.Adopt v kind k p h) f w = absurd f
+starts d t l (op.Land h x) f w = absurd f
+starts d t l (op.Meet v sort k p h) f w = absurd f
+starts d t l (op.Release h) f w = absurd f
+starts d t l o f w = refl
 
 -- with the equation put in
 doing-put : (s : Linkage) (t line : ℕ) (o : Op) (cites : Option ℕ) (d : Doing) → doing_at s.control t ≡ d → ThreadAllows d (M t) line o cites → ThreadTurn s t line o cites
@@ -66,7 +67,7 @@ stand-put s o reply cites told st e w = subst (λ z. DriverAllows z s.managed.ma
 
 pub threads_have_turns : ThreadsHaveTurns
 threads_have_turns s t = record {
-  start = starts (doing_at s.control t);
+  start = λ line o f w. starts (doing_at s.control t) (M t) line o f w;
   adopt = λ n line p h sort f v kind k e l. doing-put s t line (op.Adopt v kind k p h) (Some n) _ e (refl, refl, refl, refl, l);
   land = λ n line h x e. doing-put s t line (op.Land h x) (Some n) _ e (refl, refl, refl, refl);
   meet = λ n line p h sort f v e. doing-put s t line (op.Meet v sort f p h) (Some n) _ e (refl, refl, refl, refl, refl, refl);
@@ -101,7 +102,7 @@ reader_entry_comes s number m v e line short done cites = subst (λ r. Comes r s
     by : (t : Thread) (o : Op) → m.op ≡ o → IsEvent t o → is_read o ≡ true → IsDone (doing_at s.control (thread_number t))
         → CallerAllows s.control s.managed.managed s.peer.peers.issued t m.index m.op m.reply m.cites nothing
     by (M u) (op.Line a) f v e d = subst (λ z. ThreadAllows (doing_at s.control u) (M u) m.index z m.cites)
-        (sym f) (subst (MayStart (doing_at s.control u)) (sym cites) (starts (doing_at s.control u) d))
+        (sym f) (subst (ThreadAllows (doing_at s.control u) (M u) m.index (op.Line a)) (sym cites) (starts (doing_at s.control u) (M u) m.index (op.Line a) tt d))
     by (P u) o f v e d = cites
     by C o f v e d = absurd (driver_reads o v e)
     by (M u) o f v e d = absurd (true≢false (sym e))

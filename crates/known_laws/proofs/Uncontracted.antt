@@ -8,7 +8,7 @@ use Rattle.joint_machine.specs.declared.events.Made.{Made}
 use Rattle.joint_machine.specs.declared.events.Op.TheVariants as op
 use Rattle.joint_machine.specs.declared.events.Reply.{Reply}
 use Rattle.joint_machine.specs.declared.events.Reply.TheVariants as says
-use Rattle.joint_machine.specs.Control.{CallerAllows, MayContractNow, Stand, OpenSnap, snapped, contracted, weakening, marked, restoring, stand_after, control_after}
+use Rattle.joint_machine.specs.Control.{CallerAllows, DriverAllows, Stand, OpenSnap, snapped, contracted, weakening, marked, restoring, stand_after, control_after}
 use Rattle.joint_machine.specs.Heaps.{Answered}
 use Rattle.joint_machine.specs.Lines.{IsEvent, is_peer_event}
 use Rattle.joint_machine.specs.Linked.{Linkage, MayCome, SideLawful, managed_after, linkage_after}
@@ -108,7 +108,8 @@ uncontracted-step s n may u = by n.entry.made.caller n.entry.made.op n.told may.
     by C (op.Snap k) told e l a w q = absurd l.allowed
     by C (op.Contract k) (contraction_of comps heavy xrefs) e l a w q = contract_case s.control.stand a q
       where
-        contract_case : (st : Stand) → MayContractNow st k.0 n.entry.made.cites → stand_after st num (op.Contract k) n.entry.made.reply (contraction_of comps heavy xrefs) ≡ snapped w → true ≡ false
+        contract_case : (st : Stand) → DriverAllows st s.managed.managed s.peer.peers.issued (op.Contract k) n.entry.made.reply n.entry.made.cites (contraction_of comps heavy xrefs)
+            → stand_after st num (op.Contract k) n.entry.made.reply (contraction_of comps heavy xrefs) ≡ snapped w → true ≡ false
         contract_case (snapped o) a q = absurd (cc)
         contract_case _ a q = absurd a
     by C (op.Contract k) told e l a w q = absurd l.allowed

@@ -22,11 +22,11 @@ use Rattle.joint_machine.specs.declared.events.Made.{Made}
 use Rattle.joint_machine.specs.Components.{mirror_edges}
 use Rattle.joint_machine.specs.Control.{OpenSnap, made, lent, gripped, given, met, idle, snapped, contracted, weakening}
 use Rattle.joint_machine.specs.Control.{marked, restoring, restored, doing_at, last_line, carried_edges}
-use Rattle.joint_machine.specs.Control.{IsCandidateHandle, IsPhaseOf, IsAtRest, IsDone, MayStart, ThreadAllows}
+use Rattle.joint_machine.specs.Control.{IsCandidateHandle, IsPhaseOf, IsAtRest, IsDone, ThreadAllows}
 use Rattle.joint_machine.specs.Control.{DriverAllows, CallerAllows}
 use Rattle.joint_machine.specs.Managed.{candidates_of}
 use Rattle.joint_machine.specs.Lines.{IsLine, IsEvent, is_read}
-use Rattle.joint_machine.specs.Linked.{Linkage, MayCome}
+use Rattle.joint_machine.specs.Linked.{Linkage}
 use Rattle.joint_machine.specs.Run.{thread_number}
 use Rattle.joint_machine.specs.Sides.{managed_rules, peer_rules}
 use Rattle.joint_machine.specs.Told.{Told, nothing, Answer, references_of, resolution_of, phase_of}
@@ -56,10 +56,18 @@ ThreadTurn s t line o cites = ThreadAllows (doing_at s.control t) (M t) line o c
 abbrev pub DriverTurn : Linkage → Op → Reply → Option ℕ → Told → Type 0
 DriverTurn s o reply cites told = DriverAllows s.control.stand s.managed.managed s.peer.peers.issued o reply cites told
 
+-- the event is the first of an operation
+abbrev pub OpensOperation : Op → Type 0
+OpensOperation (op.Adopt v kind k p h) = ⊥
+OpensOperation (op.Land h x) = ⊥
+OpensOperation (op.Meet v sort k p h) = ⊥
+OpensOperation (op.Release h) = ⊥
+OpensOperation _ = Unit {0}
+
 -- a thread may begin an operation unless a handle waits for its release, and goes on with the later event of the one it
 -- is in
 pub record AreThreadTurns (s : Linkage) (t : ℕ) : Type 0 where
-  pub start : IsDone (doing_at s.control t) → MayStart (doing_at s.control t) None
+  pub start : (line : ℕ) (o : Op) → OpensOperation o → IsDone (doing_at s.control t) → ThreadTurn s t line o None
   pub adopt : (n line : ℕ) (p : PNum) (h : HNum) (sort : Sort) (f : ℕ) (v : Var) (kind : Kind) (k : ℕ)
       → doing_at s.control t ≡ made n line p.0 h.0 sort f → IsLine (M t) (act.Bridge v kind k sort f)
       → ThreadTurn s t line (op.Adopt v kind k p h) (Some n)

@@ -10,7 +10,7 @@ use Rattle.joint_machine.specs.declared.events.Entry.{Entry}
 use Rattle.joint_machine.specs.declared.events.Op.{Op}
 use Rattle.joint_machine.specs.declared.events.Op.TheVariants as op
 use Rattle.joint_machine.specs.Components.{End}
-use Rattle.joint_machine.specs.Control.{CallerAllows, MayMirrorNow, Stand, contracted}
+use Rattle.joint_machine.specs.Control.{CallerAllows, DriverAllows, Stand, contracted}
 use Rattle.joint_machine.specs.Cycles.{IsDeadContraction}
 use Rattle.joint_machine.specs.Histories.{Finished}
 use Rattle.joint_machine.specs.Joint.{Joint}
@@ -48,7 +48,8 @@ mirrors s w n may k e j at = subst (λ (z : Joint). (next : List (End × End)) �
     (by n.entry.made.caller (subst (λ o. IsEvent n.entry.made.caller o) e may.event)
     (subst (λ o. CallerAllows s.control s.managed.managed s.peer.peers.issued n.entry.made.caller n.entry.made.index o n.entry.made.reply n.entry.made.cites n.told) e may.order))
   where
-    at-stand : (d : Stand) (cites : Option ℕ) (told : Told) → DriverInvariant s.managed s.peer d → MayMirrorNow d s.managed.managed s.peer.peers.issued k.0 cites told
+    at-stand : (d : Stand) (cites : Option ℕ) (told : Told) → DriverInvariant s.managed s.peer d
+        → DriverAllows d s.managed.managed s.peer.peers.issued (op.Mirror k) n.entry.made.reply cites told
         → (next : List (End × End)) × AreMirrored (state_of s w).graph next
     at-stand (contracted o comps heavy xrefs) cites (references_of refs) d m = (
       refs,

@@ -2,6 +2,7 @@
 -- by what its words and the state tell, and a refusal and a `finalise` by their words.
 use Rattle.std.proofs.Common.{◌≡◌, ℕ, zero, suc, ◌≤◌, ◌⊎◌, inl, inr, List, [], get_or, codes, decimal, Option, refl, sym, ◌∙◌, ap, arith}
 use Rattle.std.specs.Prelude.{if◌then◌else◌}
+use Rattle.joint_machine.specs.declared.names.Cycle.{Cycle}
 use Rattle.joint_machine.specs.declared.names.HNum.{HNum}
 use Rattle.joint_machine.specs.declared.names.Kind.{Kind}
 use Rattle.joint_machine.specs.declared.names.Kind.TheVariants as kind
@@ -18,9 +19,11 @@ use Rattle.joint_machine.specs.declared.lines.Act.TheVariants as act
 use Rattle.joint_machine.specs.declared.events.Op.{Op}
 use Rattle.joint_machine.specs.declared.events.Op.TheVariants as op
 use Rattle.joint_machine.specs.declared.events.Reply.{Reply}
-use Rattle.joint_machine.specs.Control.{Doing, free, made, lent, gripped, given, met, doing_at, Stand, snapped, contracted, MayAdopt, MayLand, MayMeet, MayRelease, MayAbandonNow}
+use Rattle.joint_machine.specs.Control.{Doing, free, made, lent, gripped, given, met, doing_at, Stand, snapped, contracted, ThreadAllows, DriverAllows}
 use Rattle.joint_machine.specs.Lines.{IsPlainObject, IsBridgeObject, IsManagedAct, IsPeerAct, IsOneEvent, IsEvent, IsThread, IsPeerThread, IsDriver}
 use Rattle.joint_machine.specs.Linked.{Linkage}
+use Rattle.joint_machine.specs.Managed.{Managed}
+use Rattle.joint_machine.specs.Peers.{Issued}
 use Rattle.joint_machine.specs.Told.{Told}
 use Rattle.bridge_script.specs.Words.{phase_word_text}
 use Rattle.history_report.specs.Report.{event_words}
@@ -105,22 +108,22 @@ record HasNames (d : Doing) (p h : ℕ) : Type 0 where
   pub peer : peer_in d ≡ p
   pub handle : handle_in d ≡ h
 
-adopt-names : (d : Doing) (t : Thread) (l : ℕ) (v : Var) (kind : Kind) (k : ℕ) (p : PNum) (h : HNum) (c : Option ℕ) → MayAdopt d t l (op.Adopt v kind k p h) c → HasNames d p.0 h.0
+adopt-names : (d : Doing) (t : Thread) (l : ℕ) (v : Var) (kind : Kind) (k : ℕ) (p : PNum) (h : HNum) (c : Option ℕ) → ThreadAllows d t l (op.Adopt v kind k p h) c → HasNames d p.0 h.0
 adopt-names (made n line p' h' sort f) t l v kind k p h c a = record { peer = sym a.2; handle = sym a.3 }
 adopt-names d t l v kind k p h c a = absurd a
 
-meet-names : (d : Doing) (l : ℕ) (v : Var) (p : PNum) (h : HNum) (sort : Sort) (f : ℕ) (c : Option ℕ) → MayMeet d l (op.Meet v sort f p h) c → HasNames d p.0 h.0
-meet-names (gripped n line p' h' sort' f') l v p h sort f c a = record { peer = sym a.2; handle = sym a.3 }
-meet-names d l v p h sort f c a = absurd a
+meet-names : (d : Doing) (t : Thread) (l : ℕ) (v : Var) (p : PNum) (h : HNum) (sort : Sort) (f : ℕ) (c : Option ℕ) → ThreadAllows d t l (op.Meet v sort f p h) c → HasNames d p.0 h.0
+meet-names (gripped n line p' h' sort' f') t l v p h sort f c a = record { peer = sym a.2; handle = sym a.3 }
+meet-names d t l v p h sort f c a = absurd a
 
-land-handle : (d : Doing) (l : ℕ) (h : HNum) (x : StaticNo) (c : Option ℕ) → MayLand d l (op.Land h x) c → handle_in d ≡ h.0
-land-handle (lent n line h' x') l h x c a = sym a.2
-land-handle d l h x c a = absurd a
+land-handle : (d : Doing) (t : Thread) (l : ℕ) (h : HNum) (x : StaticNo) (c : Option ℕ) → ThreadAllows d t l (op.Land h x) c → handle_in d ≡ h.0
+land-handle (lent n line h' x') t l h x c a = sym a.2
+land-handle d t l h x c a = absurd a
 
-release-handle : (d : Doing) (l h : ℕ) (c : Option ℕ) → MayRelease d l h c → handle_in d ≡ h
-release-handle (given n line h') l h c a = sym a.2
-release-handle (met n line h') l h c a = sym a.2
-release-handle d l h c a = absurd a
+release-handle : (d : Doing) (t : Thread) (l : ℕ) (h : HNum) (c : Option ℕ) → ThreadAllows d t l (op.Release h) c → handle_in d ≡ h.0
+release-handle (given n line h') t l h c a = sym a.2
+release-handle (met n line h') t l h c a = sym a.2
+release-handle d t l h c a = absurd a
 
 -- an event of a managed thread, of a peer thread and of the driver
 managed-known : (s : Linkage) (n l : ℕ) (o : Op) (r : Reply) (c : Option ℕ) (x : Told) → IsEvent (M n) o → Allowed s (M n) l o r c x → IsKnown (names_of s (M n)) o
@@ -130,13 +133,13 @@ managed-known s n l (op.Adopt v k f p h) r c x e w =
     let m = adopt-names (doing_at s.control n) (M n) l v k f p h c w in
     (e.1, bridge-fields k f e.2.0 e.2.1, m.peer, m.handle)
 managed-known s n l (op.Lend v y) r c x e w = (e.1, e.2)
-managed-known s n l (op.Land h y) r c x e w = (land-handle (doing_at s.control n) l h y c w, e.1)
+managed-known s n l (op.Land h y) r c x e w = (land-handle (doing_at s.control n) (M n) l h y c w, e.1)
 managed-known s n l (op.Grip y) r c x e w = e.1
 managed-known s n l (op.Meet v k f p h) r c x e w =
-    let m = meet-names (doing_at s.control n) l v p h k f c w in
+    let m = meet-names (doing_at s.control n) (M n) l v p h k f c w in
     (e.1, e.2, m.peer, m.handle)
 managed-known s n l (op.Give v) r c x e w = e.1
-managed-known s n l (op.Release h) r c x e w = release-handle (doing_at s.control n) l h.0 c w
+managed-known s n l (op.Release h) r c x e w = release-handle (doing_at s.control n) (M n) l h c w
 managed-known s n l op.Begin r c x e w = tt
 managed-known s n l op.Sweep r c x e w = tt
 managed-known s n l o r c x e w = absurd e
@@ -214,10 +217,11 @@ word-read word.Resolve = refl
 word-one : (w v : PhaseWord) → phase_word_text w ≡ phase_word_text v → w ≡ v
 word-one w v e = sym (word-read w) ∙ (ap word_of e ∙ word-read v)
 
-abandon-one : (stand : Stand) (k k' : ℕ) (c c' : Option ℕ) → MayAbandonNow stand k c → MayAbandonNow stand k' c' → k ≡ k'
-abandon-one (snapped o) k k' c c' a b = sym a.0 ∙ b.0
-abandon-one (contracted o comps heavy xrefs) k k' c c' a b = sym a.0 ∙ b.0
-abandon-one stand k k' c c' a b = absurd a
+abandon-one : (stand : Stand) (m : Managed) (i : List Issued) (k k' : Cycle) (r r' : Reply) (c c' : Option ℕ) (x y : Told)
+    → DriverAllows stand m i (op.Abandon k) r c x → DriverAllows stand m i (op.Abandon k') r' c' y → k.0 ≡ k'.0
+abandon-one (snapped o) m i k k' r r' c c' x y a b = sym a.0 ∙ b.0
+abandon-one (contracted o comps heavy xrefs) m i k k' r r' c c' x y a b = sym a.0 ∙ b.0
+abandon-one stand m i k k' r r' c c' x y a b = absurd a
 
 -- the driver's own events
 driver-one : (s : Linkage) (l l' : ℕ) (o o' : Op) (r r' : Reply) (c c' : Option ℕ) (x y : Told) → tag_of o ≡ tag_of o'
@@ -229,7 +233,8 @@ driver-one s l l' (op.Weaken h) (op.Weaken h') r r' c c' x y t e a b z = phase-o
 driver-one s l l' (op.Restore h) (op.Restore h') r r' c c' x y t e a b z = phase-op word.Restore s l l' (op.Restore h) (op.Restore h') r r' c c' x y tt tt a b
 driver-one s l l' (op.Clear k) (op.Clear k') r r' c c' x y t e a b z = clear-op s l l' (op.Clear k) (op.Clear k') r r' c c' x y tt tt a b
 driver-one s l l' (op.Resolve k) (op.Resolve k') r r' c c' x y t e a b z = phase-op word.Resolve s l l' (op.Resolve k) (op.Resolve k') r r' c c' x y tt tt a b
-driver-one s l l' (op.Abandon k) (op.Abandon k') r r' c c' x y t e a b z = ap op.Abandon (same-cycle k k' (abandon-one s.control.stand k.0 k'.0 c c' a.order b.order))
+driver-one s l l' (op.Abandon k) (op.Abandon k') r r' c c' x y t e a b z =
+    ap op.Abandon (same-cycle k k' (abandon-one s.control.stand s.managed.managed s.peer.peers.issued k k' r r' c c' x y a.order b.order))
 driver-one s l l' (op.Refused w) (op.Refused v) r r' c c' x y t e a b z = ap op.Refused (word-one w v (ap (λ (ws : List (List ℕ)). get_or ws 1 []) e))
 driver-one s l l' (op.Snap k) o' r r' c c' x y t e a b z = absurd (omega (arith, t))
 driver-one s l l' (op.Contract k) o' r r' c c' x y t e a b z = absurd (omega (arith, t))

@@ -1,7 +1,7 @@
 -- The entries of each line, and of all lines, are the same in two lists that hold them. Two entries of one phase are
 -- one, as the state has one event of it; a `mark` sweeps exactly where a marking is open; of two refusals on one line
 -- both name the driver's phase; and the events of another operation go by the replies so far.
-use Rattle.std.proofs.Common.{◌≡◌, ◌⊎◌, inl, inr, ℕ, List, [], ◌∷◌, ◌++◌, length, Option, Some, None, refl, sym, ◌∙◌, ap, subst}
+use Rattle.std.proofs.Common.{◌≡◌, ◌⊎◌, inl, inr, ℕ, List, [], ◌∷◌, ◌++◌, Option, Some, None, refl, sym, ◌∙◌, ap, subst}
 use Rattle.std.proofs.lemmas.List.{append-nil}
 use Rattle.std.proofs.lemmas.Option.{same_Some}
 use Rattle.joint_machine.specs.declared.names.Thread.{Thread}
@@ -16,8 +16,7 @@ use Rattle.joint_machine.specs.declared.events.Op.TheVariants as op
 use Rattle.joint_machine.specs.declared.events.Reply.{Reply}
 use Rattle.joint_machine.specs.declared.events.Reply.TheVariants as says
 use Rattle.joint_machine.specs.declared.events.Entry.{Entry}
-use Rattle.joint_machine.specs.Control.{Stand, weakening, MayBeginNow}
-use Rattle.joint_machine.specs.Managed.{candidates_of}
+use Rattle.joint_machine.specs.Control.{Stand, weakening, DriverAllows}
 use Rattle.joint_machine.specs.Histories.{NumberedFrom}
 use Rattle.joint_machine.specs.Lines.{IsLine}
 use Rattle.joint_machine.specs.Linked.{Linkage}
@@ -32,11 +31,12 @@ use Rattle.known_laws.proofs.Retelling.{AllPlain}
 use Rattle.script_laws.proofs.Sharing.{OneOn, Shares, Comes, comes-of, agree, next-no, one-op, one-phase, one-clear, shares-none, shares-cons, shares-then, shares-by, times-share}
 
 -- a `mark` sweeps a peer thread's marking exactly where one is open
-begin-none : (s : PeerReplay) (m : Option Marking) (stand : Stand) (n : ℕ) (c : Option ℕ) (r : Reply) → r ≡ (begun s m C).reply → MayBeginNow stand n r c → m ≡ None
-begin-none s None stand n c r e a = refl
-begin-none s (Some mk) stand n c r e a = absurd (refused stand (subst (λ z. MayBeginNow stand n z c) e a))
+begin-none : (s : Linkage) (m : Option Marking) (c : Option ℕ) (r : Reply) (x : Told) → r ≡ (begun s.peer m C).reply
+    → DriverAllows s.control.stand s.managed.managed s.peer.peers.issued op.Begin r c x → m ≡ None
+begin-none s None c r x e a = refl
+begin-none s (Some mk) c r x e a = absurd (refused s.control.stand (subst (λ z. DriverAllows s.control.stand s.managed.managed s.peer.peers.issued op.Begin z c x) e a))
   where
-    refused : (stand : Stand) → MayBeginNow stand n (says.MarkOpen record { 0 = mk.number }) c → ⊥
+    refused : (stand : Stand) → DriverAllows stand s.managed.managed s.peer.peers.issued op.Begin (says.MarkOpen record { 0 = mk.number }) c x → ⊥
     refused (weakening o count weakened swept) a = a
     refused stand a = a
 
@@ -46,7 +46,7 @@ swept-none s (Some mk) x a n = cc
 
 no-mark : (s : Linkage) (l l' : ℕ) (o o' : Op) (r r' : Reply) (c c' : Option ℕ) (x y : Told) → IsEventOf word.Mark o → o' ≡ op.Sweep → Comes s l o r c x → Comes s l' o' r' c' y → ⊥
 no-mark s l l' op.Begin op.Sweep r r' c c' x y p q a b =
-    swept-none s.peer s.peer.marking y b.lawful.allowed (begin-none s.peer s.peer.marking s.control.stand (length (candidates_of s.managed.managed)) c r a.lawful.replies a.order)
+    swept-none s.peer s.peer.marking y b.lawful.allowed (begin-none s s.peer.marking c r x a.lawful.replies a.order)
 no-mark s l l' op.Begin o' r r' c c' x y p q a b = cc
 no-mark s l l' o o' r r' c c' x y p q a b = p
 

@@ -13,9 +13,8 @@ use Rattle.joint_machine.specs.declared.events.Op.TheVariants as op
 use Rattle.joint_machine.specs.declared.events.Reply.{Reply}
 use Rattle.joint_machine.specs.declared.events.Reply.TheVariants as says
 use Rattle.joint_machine.specs.Components.{End}
-use Rattle.joint_machine.specs.Control.{Doing, free, made, lent, gripped, given, met, Stand, idle, snapped, contracted, weakening, marked, restoring, restored, doing_at, MayStart, MayAdopt, MayLand}
-use Rattle.joint_machine.specs.Control.{MayMeet, MayRelease, ThreadAllows, MaySnap, MayContractNow, MayMirrorNow, MayWeakenNow, MayBeginNow, MaySweepNow, MayRestoreNow, MayClearNow, MayResolveNow}
-use Rattle.joint_machine.specs.Control.{MayAbandonNow, MayRefuseNow, DriverAllows, CallerAllows, IsPhaseOf}
+use Rattle.joint_machine.specs.Control.{Doing, made, lent, gripped, given, met, Stand, idle, snapped, contracted, weakening, marked, restoring, restored, doing_at}
+use Rattle.joint_machine.specs.Control.{ThreadAllows, DriverAllows, CallerAllows, IsPhaseOf}
 use Rattle.joint_machine.specs.Lines.{IsEvent, is_peer_event}
 use Rattle.joint_machine.specs.Linked.{Linkage, SideLawful}
 use Rattle.joint_machine.specs.Managed.{Managed, candidates_of}
@@ -28,102 +27,41 @@ use Rattle.known_laws.proofs.OneContraction.{is_one_contraction}
 use Rattle.known_laws.proofs.Telling.{IsTelling, managed_told, peer_told, mirrors, resolves_alike, phases, seen-cycle, seen-snap}
 use Rattle.known_laws.proofs.Retelling.{making, noting, PlainComes}
 
-start-cites : (d : Doing) (c c' : Option ℕ) → MayStart d c → MayStart d c' → c ≡ c'
-start-cites free c c' a b = a ∙ sym b
-start-cites (made n line p h sort f) c c' a b = a ∙ sym b
-start-cites (lent n line h x) c c' a b = a ∙ sym b
-start-cites (gripped n line p h sort f) c c' a b = a ∙ sym b
-start-cites (given n line h) c c' a b = absurd a
-start-cites (met n line h) c c' a b = absurd a
-
-adopt-cites : (d : Doing) (t : Thread) (l : ℕ) (o : Op) (c c' : Option ℕ) → MayAdopt d t l o c → MayAdopt d t l o c' → c ≡ c'
-adopt-cites (made n line p h sort f) t l (op.Adopt v kind k p' h') c c' a b = a.0 ∙ sym b.0
-adopt-cites d t l o c c' a b = absurd a
-
-land-cites : (d : Doing) (l : ℕ) (o : Op) (c c' : Option ℕ) → MayLand d l o c → MayLand d l o c' → c ≡ c'
-land-cites (lent n line h x) l (op.Land h' x') c c' a b = a.0 ∙ sym b.0
-land-cites d l o c c' a b = absurd a
-
-meet-cites : (d : Doing) (l : ℕ) (o : Op) (c c' : Option ℕ) → MayMeet d l o c → MayMeet d l o c' → c ≡ c'
-meet-cites (gripped n line p h sort f) l (op.Meet v sort' f' p' h') c c' a b = a.0 ∙ sym b.0
-meet-cites d l o c c' a b = absurd a
-
-release-cites : (d : Doing) (l h : ℕ) (c c' : Option ℕ) → MayRelease d l h c → MayRelease d l h c' → c ≡ c'
-release-cites (given n line h) l h' c c' a b = a.0 ∙ sym b.0
-release-cites (met n line h) l h' c c' a b = a.0 ∙ sym b.0
-release-cites d l h' c c' a b = absurd a
-
 -- what a managed thread's event cites
 thread-cites : (d : Doing) (t : Thread) (l : ℕ) (o : Op) (c c' : Option ℕ) → ThreadAllows d t l o c → ThreadAllows d t l o c' → c ≡ c'
-thread-cites d t l (op.Adopt v kind k p h) c c' a b = adopt-cites d t l (op.Adopt v kind k p h) c c' a b
-thread-cites d t l (op.Land h x) c c' a b = land-cites d l (op.Land h x) c c' a b
-thread-cites d t l (op.Meet v sort f p h) c c' a b = meet-cites d l (op.Meet v sort f p h) c c' a b
-thread-cites d t l (op.Release h) c c' a b = release-cites d l h.0 c c' a b
-thread-cites d t l o c c' a b = start-cites d c c' a b
+thread-cites (made n line p h sort f) t l (op.Adopt v kind k p' h') c c' a b = a.0 ∙ sym b.0
+thread-cites (lent n line h x) t l (op.Land h' x') c c' a b = a.0 ∙ sym b.0
+thread-cites (gripped n line p h sort f) t l (op.Meet v sort' f' p' h') c c' a b = a.0 ∙ sym b.0
+thread-cites (given n line h) t l (op.Release h') c c' a b = a.0 ∙ sym b.0
+thread-cites (met n line h) t l (op.Release h') c c' a b = a.0 ∙ sym b.0
+thread-cites (given n line h) t l o c c' a b = absurd a
+thread-cites (met n line h) t l o c c' a b = absurd a
+thread-cites d t l (op.Adopt v kind k p h) c c' a b = absurd a
+thread-cites d t l (op.Land h x) c c' a b = absurd a
+thread-cites d t l (op.Meet v sort f p h) c c' a b = absurd a
+thread-cites d t l (op.Release h) c c' a b = absurd a
+thread-cites d t l o c c' a b = a ∙ sym b
 
-snap-cites : (stand : Stand) (c c' : Option ℕ) → MaySnap stand c → MaySnap stand c' → c ≡ c'
-snap-cites idle c c' a b = a ∙ sym b
-snap-cites stand c c' a b = absurd a
-
-abandon-cites : (stand : Stand) (k : ℕ) (c c' : Option ℕ) → MayAbandonNow stand k c → MayAbandonNow stand k c' → c ≡ c'
-abandon-cites (snapped o) k c c' a b = a.1 ∙ sym b.1
-abandon-cites (contracted o comps heavy xrefs) k c c' a b = a.1 ∙ sym b.1
-abandon-cites stand k c c' a b = absurd a
-
-contract-cites : (stand : Stand) (k k' : ℕ) (c c' : Option ℕ) → MayContractNow stand k c → MayContractNow stand k' c' → c ≡ c'
-contract-cites (snapped o) k k' c c' a b = a.1 ∙ sym b.1
-contract-cites stand k k' c c' a b = absurd a
-
-mirror-cites : (stand : Stand) (s : Managed) (i : List Issued) (k : ℕ) (c c' : Option ℕ) (x y : Told) → MayMirrorNow stand s i k c x → MayMirrorNow stand s i k c' y → c ≡ c'
-mirror-cites (contracted o comps heavy xrefs) s i k c c' (references_of x) (references_of y) a b = a.1 ∙ sym b.1
-mirror-cites (contracted o comps heavy xrefs) s i k c c' (references_of x) y a b = absurd b
-mirror-cites stand s i k c c' x y a b = absurd a
-
-weaken-cites : (stand : Stand) (s : Managed) (h : ℕ) (c c' : Option ℕ) → MayWeakenNow stand s h c → MayWeakenNow stand s h c' → c ≡ c'
-weaken-cites (weakening o count weakened swept) s h c c' a b = a.0 ∙ sym b.0
-weaken-cites stand s h c c' a b = absurd a
-
-begin-cites : (stand : Stand) (n : ℕ) (r r' : Reply) (c c' : Option ℕ) → MayBeginNow stand n r c → MayBeginNow stand n r' c' → c ≡ c'
-begin-cites (weakening o count weakened swept) n (says.Mark j) (says.Mark j') c c' a b = a.1 ∙ sym b.1
-begin-cites (weakening o count weakened swept) n (says.Mark j) r' c c' a b = absurd b
-begin-cites stand n r r' c c' a b = absurd a
-
-sweep-cites : (stand : Stand) (n : ℕ) (c c' : Option ℕ) → MaySweepNow stand n c → MaySweepNow stand n c' → c ≡ c'
-sweep-cites (weakening o count weakened swept) n c c' a b = a.2 ∙ sym b.2
-sweep-cites (marked o) n c c' a b = a ∙ sym b
-sweep-cites stand n c c' a b = absurd a
-
-restore-cites : (stand : Stand) (s : Managed) (h : ℕ) (c c' : Option ℕ) → MayRestoreNow stand s h c → MayRestoreNow stand s h c' → c ≡ c'
-restore-cites (restoring o answers) s h c c' a b = a.0 ∙ sym b.0
-restore-cites stand s h c c' a b = absurd a
-
-clear-cites : (stand : Stand) (n k : ℕ) (c c' : Option ℕ) → MayClearNow stand n k c → MayClearNow stand n k c' → c ≡ c'
-clear-cites (restoring o answers) n k c c' a b = a.0 ∙ sym b.0
-clear-cites stand n k c c' a b = absurd a
-
-resolve-cites : (stand : Stand) (k : ℕ) (c c' : Option ℕ) (x y : Told) → MayResolveNow stand k c x → MayResolveNow stand k c' y → c ≡ c'
-resolve-cites (restored o answers clear) k c c' (resolution_of x f) (resolution_of y g) a b = a.1 ∙ sym b.1
-resolve-cites (restored o answers clear) k c c' (resolution_of x f) y a b = absurd b
-resolve-cites stand k c c' x y a b = absurd a
-
-refuse-cites : (stand : Stand) (n : ℕ) (c c' : Option ℕ) (x y : Told) → MayRefuseNow stand n c x → MayRefuseNow stand n c' y → c ≡ c'
-refuse-cites stand n c c' (phase_of p) (phase_of q) a b = a.1 ∙ sym b.1
-refuse-cites stand n c c' (phase_of p) y a b = absurd b
-refuse-cites stand n c c' x y a b = absurd a
-
+-- what the driver's event cites
 driver-cites : (stand : Stand) (s : Managed) (i : List Issued) (o : Op) (r r' : Reply) (c c' : Option ℕ) (x y : Told) → DriverAllows stand s i o r c x → DriverAllows stand s i o r' c' y → c ≡ c'
 driver-cites stand s i (op.Line z) r r' c c' x y a b = a.1 ∙ sym b.1
-driver-cites stand s i (op.Snap k) r r' c c' x y a b = snap-cites stand c c' a b
-driver-cites stand s i (op.Contract k) r r' c c' x y a b = contract-cites stand k.0 k.0 c c' a b
-driver-cites stand s i (op.Mirror k) r r' c c' x y a b = mirror-cites stand s i k.0 c c' x y a b
-driver-cites stand s i (op.Weaken h) r r' c c' x y a b = weaken-cites stand s h.0 c c' a b
-driver-cites stand s i op.Begin r r' c c' x y a b = begin-cites stand (length (candidates_of s)) r r' c c' a b
-driver-cites stand s i op.Sweep r r' c c' x y a b = sweep-cites stand (length (candidates_of s)) c c' a b
-driver-cites stand s i (op.Restore h) r r' c c' x y a b = restore-cites stand s h.0 c c' a b
-driver-cites stand s i (op.Clear k) r r' c c' x y a b = clear-cites stand (length (candidates_of s)) k.0 c c' a b
-driver-cites stand s i (op.Resolve k) r r' c c' x y a b = resolve-cites stand k.0 c c' x y a b
-driver-cites stand s i (op.Abandon k) r r' c c' x y a b = abandon-cites stand k.0 c c' a b
-driver-cites stand s i (op.Refused w) r r' c c' x y a b = refuse-cites stand (length (candidates_of s)) c c' x y a b
+driver-cites idle s i (op.Snap k) r r' c c' x y a b = a ∙ sym b
+driver-cites (snapped o) s i (op.Contract k) r r' c c' x y a b = a.1 ∙ sym b.1
+driver-cites (contracted o comps heavy xrefs) s i (op.Mirror k) r r' c c' (references_of x) (references_of y) a b = a.1 ∙ sym b.1
+driver-cites (contracted o comps heavy xrefs) s i (op.Mirror k) r r' c c' (references_of x) y a b = absurd b
+driver-cites (weakening o count weakened swept) s i (op.Weaken h) r r' c c' x y a b = a.0 ∙ sym b.0
+driver-cites (weakening o count weakened swept) s i op.Begin (says.Mark j) (says.Mark j') c c' x y a b = a.1 ∙ sym b.1
+driver-cites (weakening o count weakened swept) s i op.Begin (says.Mark j) r' c c' x y a b = absurd b
+driver-cites (weakening o count weakened swept) s i op.Sweep r r' c c' x y a b = a.2 ∙ sym b.2
+driver-cites (marked o) s i op.Sweep r r' c c' x y a b = a ∙ sym b
+driver-cites (restoring o answers) s i (op.Restore h) r r' c c' x y a b = a.0 ∙ sym b.0
+driver-cites (restoring o answers) s i (op.Clear k) r r' c c' x y a b = a.0 ∙ sym b.0
+driver-cites (restored o answers clear) s i (op.Resolve k) r r' c c' (resolution_of x f) (resolution_of y g) a b = a.1 ∙ sym b.1
+driver-cites (restored o answers clear) s i (op.Resolve k) r r' c c' (resolution_of x f) y a b = absurd b
+driver-cites (snapped o) s i (op.Abandon k) r r' c c' x y a b = a.1 ∙ sym b.1
+driver-cites (contracted o comps heavy xrefs) s i (op.Abandon k) r r' c c' x y a b = a.1 ∙ sym b.1
+driver-cites stand s i (op.Refused w) r r' c c' (phase_of p) (phase_of q) a b = a.1 ∙ sym b.1
+driver-cites stand s i (op.Refused w) r r' c c' (phase_of p) y a b = absurd b
 driver-cites stand s i o r r' c c' x y a b = absurd a
 
 -- what the caller's automaton allows in a state
@@ -157,13 +95,13 @@ refusals-one s stand n word.Resolve r r' p q a b e f x y g = g p q e f
 
 mirror-told : (s : Linkage) (t : Thread) (l : ℕ) (k : Cycle) (r r' : Reply) (c : Option ℕ) (xs ys : List (End × End))
     → IsEvent t (op.Mirror k) → Allowed s t l (op.Mirror k) r c (references_of xs) → Allowed s t l (op.Mirror k) r' c (references_of ys) → xs ≡ ys
-mirror-told s C l k r r' c xs ys v w x = mirrors s.control.stand s.managed.managed s.peer.peers.issued k.0 c xs ys w x
+mirror-told s C l k r r' c xs ys v w x = mirrors s.control.stand s.managed.managed s.peer.peers.issued k r r' c xs ys w x
 mirror-told s (M z) l k r r' c xs ys v w x = absurd v
 mirror-told s (P z) l k r r' c xs ys v w x = absurd v
 
 resolve-told : (s : Linkage) (t : Thread) (l : ℕ) (k : Cycle) (r r' : Reply) (c : Option ℕ) (x y : List Answer) (f g : List ℕ)
     → IsEvent t (op.Resolve k) → Allowed s t l (op.Resolve k) r c (resolution_of x f) → Allowed s t l (op.Resolve k) r' c (resolution_of y g) → x ≡ y
-resolve-told s C l k r r' c x y f g v w z = resolves_alike s.control.stand k.0 c x y f g w z
+resolve-told s C l k r r' c x y f g v w z = resolves_alike s.control.stand s.managed.managed s.peer.peers.issued k r r' c x y f g w z
 resolve-told s (M j) l k r r' c x y f g v w z = absurd v
 resolve-told s (P j) l k r r' c x y f g v w z = absurd v
 

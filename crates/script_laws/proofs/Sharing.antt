@@ -15,13 +15,12 @@ use Rattle.joint_machine.specs.declared.events.Op.TheVariants as op
 use Rattle.joint_machine.specs.declared.events.Reply.{Reply}
 use Rattle.joint_machine.specs.declared.events.Reply.TheVariants as says
 use Rattle.joint_machine.specs.declared.events.Entry.{Entry}
-use Rattle.joint_machine.specs.Control.{Stand, snapped, contracted, weakening, restoring, restored, MayContractNow, MayMirrorNow, MayWeakenNow, MayRestoreNow, MayClearNow, MayResolveNow}
-use Rattle.joint_machine.specs.Control.{IsCandidateHandle}
+use Rattle.joint_machine.specs.Control.{Stand, snapped, contracted, weakening, restoring, restored, DriverAllows, IsCandidateHandle}
 use Rattle.joint_machine.specs.Histories.{NumberedFrom}
 use Rattle.joint_machine.specs.Lines.{is_peer_event}
 use Rattle.joint_machine.specs.Linked.{Linkage, linkage_after, SideLawful}
 use Rattle.joint_machine.specs.Replaying.{replayed}
-use Rattle.joint_machine.specs.Managed.{Managed, handle_of, candidates_of}
+use Rattle.joint_machine.specs.Managed.{Managed, handle_of}
 use Rattle.joint_machine.specs.ManagedReplay.{ManagedReplay, ManagedAllows}
 use Rattle.joint_machine.specs.PeerReplay.{swept}
 use Rattle.joint_machine.specs.Peers.{Issued}
@@ -44,36 +43,37 @@ snap-one s k k' (snap_of f c d) (snap_of f' c' d') a b = a.next ∙ sym b.next
 snap-one s k k' (snap_of f c d) y a b = absurd b
 snap-one s k k' x y a b = absurd a
 
-contract-one : (stand : Stand) (k k' : ℕ) (c c' : Option ℕ) → MayContractNow stand k c → MayContractNow stand k' c' → k ≡ k'
-contract-one (snapped o) k k' c c' a b = sym a.0 ∙ b.0
-contract-one stand k k' c c' a b = absurd a
-
-mirror-one : (stand : Stand) (m : Managed) (i : List Issued) (k k' : ℕ) (c c' : Option ℕ) (x y : Told) → MayMirrorNow stand m i k c x → MayMirrorNow stand m i k' c' y → k ≡ k'
-mirror-one (contracted o comps heavy xrefs) m i k k' c c' (references_of x) (references_of y) a b = sym a.0 ∙ b.0
-mirror-one (contracted o comps heavy xrefs) m i k k' c c' (references_of x) y a b = absurd b
-mirror-one stand m i k k' c c' x y a b = absurd a
-
 handle-one : (m : Managed) (i h h' : ℕ) → IsCandidateHandle m i h → IsCandidateHandle m i h' → h ≡ h'
 handle-one m i h h' a b =
     let e : a.0 ≡ b.0 = same_Some _ _ (sym a.1 ∙ b.1) in
     same_Some _ _ (sym a.2 ∙ (ap (λ (z : ℕ). handle_of m z) e ∙ b.2))
 
-weaken-one : (stand : Stand) (m : Managed) (h h' : ℕ) (c c' : Option ℕ) → MayWeakenNow stand m h c → MayWeakenNow stand m h' c' → h ≡ h'
-weaken-one (weakening o count weakened swept) m h h' c c' a b = handle-one m count h h' a.2 b.2
-weaken-one stand m h h' c c' a b = absurd a
+module _ (m : Managed) (i : List Issued) (r r' : Reply) (c c' : Option ℕ) where
+  contract-one : (stand : Stand) (k k' : Cycle) (x y : Told) → DriverAllows stand m i (op.Contract k) r c x → DriverAllows stand m i (op.Contract k') r' c' y → k.0 ≡ k'.0
+  contract-one (snapped o) k k' x y a b = sym a.0 ∙ b.0
+  contract-one stand k k' x y a b = absurd a
 
-restore-one : (stand : Stand) (m : Managed) (h h' : ℕ) (c c' : Option ℕ) → MayRestoreNow stand m h c → MayRestoreNow stand m h' c' → h ≡ h'
-restore-one (restoring o answers) m h h' c c' a b = handle-one m (length answers) h h' a.1 b.1
-restore-one stand m h h' c c' a b = absurd a
+  mirror-one : (stand : Stand) (k k' : Cycle) (x y : Told) → DriverAllows stand m i (op.Mirror k) r c x → DriverAllows stand m i (op.Mirror k') r' c' y → k.0 ≡ k'.0
+  mirror-one (contracted o comps heavy xrefs) k k' (references_of x) (references_of y) a b = sym a.0 ∙ b.0
+  mirror-one (contracted o comps heavy xrefs) k k' (references_of x) y a b = absurd b
+  mirror-one stand k k' x y a b = absurd a
 
-clear-one : (stand : Stand) (n k k' : ℕ) (c c' : Option ℕ) → MayClearNow stand n k c → MayClearNow stand n k' c' → k ≡ k'
-clear-one (restoring o answers) n k k' c c' a b = sym a.2 ∙ b.2
-clear-one stand n k k' c c' a b = absurd a
+  weaken-one : (stand : Stand) (h h' : HNum) (x y : Told) → DriverAllows stand m i (op.Weaken h) r c x → DriverAllows stand m i (op.Weaken h') r' c' y → h.0 ≡ h'.0
+  weaken-one (weakening o count weakened swept) h h' x y a b = handle-one m count h.0 h'.0 a.2 b.2
+  weaken-one stand h h' x y a b = absurd a
 
-resolve-one : (stand : Stand) (k k' : ℕ) (c c' : Option ℕ) (x y : Told) → MayResolveNow stand k c x → MayResolveNow stand k' c' y → k ≡ k'
-resolve-one (restored o answers clear) k k' c c' (resolution_of x f) (resolution_of y g) a b = sym a.0 ∙ b.0
-resolve-one (restored o answers clear) k k' c c' (resolution_of x f) y a b = absurd b
-resolve-one stand k k' c c' x y a b = absurd a
+  restore-one : (stand : Stand) (h h' : HNum) (x y : Told) → DriverAllows stand m i (op.Restore h) r c x → DriverAllows stand m i (op.Restore h') r' c' y → h.0 ≡ h'.0
+  restore-one (restoring o answers) h h' x y a b = handle-one m (length answers) h.0 h'.0 a.1 b.1
+  restore-one stand h h' x y a b = absurd a
+
+  clear-one : (stand : Stand) (k k' : Cycle) (x y : Told) → DriverAllows stand m i (op.Clear k) r c x → DriverAllows stand m i (op.Clear k') r' c' y → k.0 ≡ k'.0
+  clear-one (restoring o answers) k k' x y a b = sym a.2 ∙ b.2
+  clear-one stand k k' x y a b = absurd a
+
+  resolve-one : (stand : Stand) (k k' : Cycle) (x y : Told) → DriverAllows stand m i (op.Resolve k) r c x → DriverAllows stand m i (op.Resolve k') r' c' y → k.0 ≡ k'.0
+  resolve-one (restored o answers clear) k k' (resolution_of x f) (resolution_of y g) a b = sym a.0 ∙ b.0
+  resolve-one (restored o answers clear) k k' (resolution_of x f) y a b = absurd b
+  resolve-one stand k k' x y a b = absurd a
 
 -- what may come of the driver
 pub record Comes (s : Linkage) (l : ℕ) (o : Op) (r : Reply) (c : Option ℕ) (x : Told) : Type 0 where
@@ -82,14 +82,18 @@ pub record Comes (s : Linkage) (l : ℕ) (o : Op) (r : Reply) (c : Option ℕ) (
 
 pub phase-op : (w : PhaseWord) (s : Linkage) (l l' : ℕ) (o o' : Op) (r r' : Reply) (c c' : Option ℕ) (x y : Told) → IsEventOf w o → IsEventOf w o' → Comes s l o r c x → Comes s l' o' r' c' y → o ≡ o'
 phase-op word.Snap s l l' (op.Snap k) (op.Snap k') r r' c c' x y p q a b = ap op.Snap (same-cycle k k' (snap-one s.managed k k' x y a.lawful.allowed b.lawful.allowed))
-phase-op word.Contract s l l' (op.Contract k) (op.Contract k') r r' c c' x y p q a b = ap op.Contract (same-cycle k k' (contract-one s.control.stand k.0 k'.0 c c' a.order b.order))
-phase-op word.Mirror s l l' (op.Mirror k) (op.Mirror k') r r' c c' x y p q a b = ap op.Mirror
-    (same-cycle k k' (mirror-one s.control.stand s.managed.managed s.peer.peers.issued k.0 k'.0 c c' x y a.order b.order))
-phase-op word.Weaken s l l' (op.Weaken h) (op.Weaken h') r r' c c' x y p q a b = ap op.Weaken (same-handle h h' (weaken-one s.control.stand s.managed.managed h.0 h'.0 c c' a.order b.order))
+phase-op word.Contract s l l' (op.Contract k) (op.Contract k') r r' c c' x y p q a b =
+    ap op.Contract (same-cycle k k' (contract-one s.managed.managed s.peer.peers.issued r r' c c' s.control.stand k k' x y a.order b.order))
+phase-op word.Mirror s l l' (op.Mirror k) (op.Mirror k') r r' c c' x y p q a b =
+    ap op.Mirror (same-cycle k k' (mirror-one s.managed.managed s.peer.peers.issued r r' c c' s.control.stand k k' x y a.order b.order))
+phase-op word.Weaken s l l' (op.Weaken h) (op.Weaken h') r r' c c' x y p q a b =
+    ap op.Weaken (same-handle h h' (weaken-one s.managed.managed s.peer.peers.issued r r' c c' s.control.stand h h' x y a.order b.order))
 phase-op word.Mark s l l' op.Begin op.Begin r r' c c' x y p q a b = refl
 phase-op word.Sweep s l l' op.Sweep op.Sweep r r' c c' x y p q a b = refl
-phase-op word.Restore s l l' (op.Restore h) (op.Restore h') r r' c c' x y p q a b = ap op.Restore (same-handle h h' (restore-one s.control.stand s.managed.managed h.0 h'.0 c c' a.order b.order))
-phase-op word.Resolve s l l' (op.Resolve k) (op.Resolve k') r r' c c' x y p q a b = ap op.Resolve (same-cycle k k' (resolve-one s.control.stand k.0 k'.0 c c' x y a.order b.order))
+phase-op word.Restore s l l' (op.Restore h) (op.Restore h') r r' c c' x y p q a b =
+    ap op.Restore (same-handle h h' (restore-one s.managed.managed s.peer.peers.issued r r' c c' s.control.stand h h' x y a.order b.order))
+phase-op word.Resolve s l l' (op.Resolve k) (op.Resolve k') r r' c c' x y p q a b =
+    ap op.Resolve (same-cycle k k' (resolve-one s.managed.managed s.peer.peers.issued r r' c c' s.control.stand k k' x y a.order b.order))
 phase-op word.Snap s l l' (op.Snap k) o' r r' c c' x y p q a b = absurd q
 phase-op word.Contract s l l' (op.Contract k) o' r r' c c' x y p q a b = absurd q
 phase-op word.Mirror s l l' (op.Mirror k) o' r r' c c' x y p q a b = absurd q
@@ -101,7 +105,7 @@ phase-op word.Resolve s l l' (op.Resolve k) o' r r' c c' x y p q a b = absurd q
 phase-op w s l l' o o' r r' c c' x y p q a b = absurd p
 
 pub clear-op : (s : Linkage) (l l' : ℕ) (o o' : Op) (r r' : Reply) (c c' : Option ℕ) (x y : Told) → IsClear o → IsClear o' → Comes s l o r c x → Comes s l' o' r' c' y → o ≡ o'
-clear-op s l l' (op.Clear k) (op.Clear k') r r' c c' x y p q a b = ap op.Clear (same-cycle k k' (clear-one s.control.stand (length (candidates_of s.managed.managed)) k.0 k'.0 c c' a.order b.order))
+clear-op s l l' (op.Clear k) (op.Clear k') r r' c c' x y p q a b = ap op.Clear (same-cycle k k' (clear-one s.managed.managed s.peer.peers.issued r r' c c' s.control.stand k k' x y a.order b.order))
 clear-op s l l' (op.Clear k) o' r r' c c' x y p q a b = absurd q
 clear-op s l l' o o' r r' c c' x y p q a b = absurd p
 
