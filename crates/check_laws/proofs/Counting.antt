@@ -407,16 +407,16 @@ module _ (past : List Noted) (w : AllComeBehind past) (r : AllStand past) (p : A
   s = (state_of past).managed.managed
 
   known-at : (j : ℕ) → HasKnownFrom (in_turn past) t (length past) j → KnownFrom past t j
-  known-at j (x, a, b, c) = (x, a, (c.entry, get-at past x c.entry c.there, c.caller))
+  known-at j (x, a, b, c) = (x, a, (c.element, get-at past x c.element c.there, c.is))
 
   at-known : (j : ℕ) → KnownFrom past t j → HasKnownFrom (in_turn past) t (length past) j
-  at-known j (x, a, (n, i, c)) = (x, a, within past x n i, record { entry = n; there = at-get past x n i; caller = c })
+  at-known j (x, a, (n, i, c)) = (x, a, within past x n i, record { element = n; there = at-get past x n i; is = c })
 
   managed-at : (j : ℕ) → IsManagedAt (in_turn past) j → ManagedAt past j
-  managed-at j m = (m.entry, get-at past j m.entry m.there, m.managed)
+  managed-at j m = (m.element, get-at past j m.element m.there, m.is)
 
   at-managed : (j : ℕ) → ManagedAt past j → IsManagedAt (in_turn past) j
-  at-managed j (n, i, c) = record { entry = n; there = at-get past j n i; managed = c }
+  at-managed j (n, i, c) = record { element = n; there = at-get past j n i; is = c }
 
   -- more than that was seen: an entry behind is known
   beyond : (e : ℕ) → count_below past (e + 1) < seen past t → (j : ℕ) × (e < j) × IsManagedAt (in_turn past) j × HasKnownFrom (in_turn past) t (length past) j
@@ -432,17 +432,17 @@ module _ (past : List Noted) (w : AllComeBehind past) (r : AllStand past) (p : A
       let a = in-at past f.0 p f.1 in
       inl (record {
         snap = f.0.entry.number;
-        snaps = record { entry = f.0; there = at-get past f.0.entry.number f.0 a; event = f.2 };
+        snaps = record { element = f.0; there = at-get past f.0.entry.number f.0 a; is = f.2 };
         early = λ j l m. (let b = within past f.0.entry.number f.0 a in omega (arith, l, b));
         unknown = λ e j d l m g. by (ended past k) refl most e j d l m g;
       })
     where
       by : (o : Option ℕ) → ended past k ≡ o → AtMost (seen past t) o → (e j : ℕ) → EndsCycleAt (in_turn past) e k
           → e < j → IsManagedAt (in_turn past) j → HasKnownFrom (in_turn past) t (length past) j → ⊥
-      by None q most e j d l m g = ended-none past k q d.entry (at-in past e d.entry (get-at past e d.entry d.there)) d.event
+      by None q most e j d l m g = ended-none past k q d.element (at-in past e d.element (get-at past e d.element d.there)) d.is
       by (Some c) q most e j d l m g =
           let u = ended-some past k c q in
-          let same = end-once past w r e u.at k d.entry u.entry (get-at past e d.entry d.there) u.there d.event u.is in
+          let same = end-once past w r e u.at k d.element u.entry (get-at past e d.element d.there) u.there d.is u.is in
           let less = not-beyond e j l m g in
           let is = u.count ∙ ap (λ z. count_below past (z + 1)) (sym same) in
           omega (arith, most, less, is)
@@ -450,18 +450,18 @@ module _ (past : List Noted) (w : AllComeBehind past) (r : AllStand past) (p : A
   so-pending : MayBePendingBehind past s (length past) t k → IsPendingBy past s t k
   so-pending (inr next) = inl next
   so-pending (inl m) =
-      let a = get-at past m.snap m.snaps.entry m.snaps.there in
-      let c = cut past m.snap m.snaps.entry a in
-      let w' = all_come-back c.front (m.snaps.entry ∷ c.back) (subst AllComeBehind c.all w) in
-      let next = (opens-on (state_of c.back) m.snaps.entry k w'.0 m.snaps.event).next in
-      inr (omega (arith, next), snap-counted past w r m.snaps.entry k (at-in past m.snap m.snaps.entry a) m.snaps.event, by (ended past k) refl)
+      let a = get-at past m.snap m.snaps.element m.snaps.there in
+      let c = cut past m.snap m.snaps.element a in
+      let w' = all_come-back c.front (m.snaps.element ∷ c.back) (subst AllComeBehind c.all w) in
+      let next = (opens-on (state_of c.back) m.snaps.element k w'.0 m.snaps.is).next in
+      inr (omega (arith, next), snap-counted past w r m.snaps.element k (at-in past m.snap m.snaps.element a) m.snaps.is, by (ended past k) refl)
     where
       by : (o : Option ℕ) → ended past k ≡ o → AtMost (seen past t) o
       by None q = tt
       by (Some c) q =
           let u = ended-some past k c q in
           elim (split (count_below past (u.at + 1)) (seen past t)) [
-            | inl less ↦ absurd (let z = beyond u.at less in m.unknown u.at z.0 (record { entry = u.entry; there = at-get past u.at u.entry u.there; event = u.is }) z.1 z.2 z.3)
+            | inl less ↦ absurd (let z = beyond u.at less in m.unknown u.at z.0 (record { element = u.entry; there = at-get past u.at u.entry u.there; is = u.is }) z.1 z.2 z.3)
             | inr most ↦ (let is = u.count in omega (arith, most, is))
           ]
 
@@ -469,41 +469,41 @@ module _ (past : List Noted) (w : AllComeBehind past) (r : AllStand past) (p : A
   unset-so u = record {
     unknown = λ e j d l m g. by (setting past k) refl u.unknown e j d l m g;
     not_own = λ e d l o. own (setting past k) refl u.unknown e d o;
-    target_unfreed = λ m j q f l. u.unfreed m q (freed-in past w r f.entry m (at-in past j f.entry (get-at past j f.entry f.there)) f.frees);
+    target_unfreed = λ m j q f l. u.unfreed m q (freed-in past w r f.element m (at-in past j f.element (get-at past j f.element f.there)) f.is);
   }
     where
       by : (o : Option Setting) → setting past k ≡ o → IsUnknown t (seen past t) o → (e j : ℕ) → SetsCellAt (in_turn past) e k
           → e < j → IsManagedAt (in_turn past) j → HasKnownFrom (in_turn past) t (length past) j → ⊥
-      by None q most e j d l m g = setting-none past k q d.entry (at-in past e d.entry (get-at past e d.entry d.there)) d.event d.set
+      by None q most e j d l m g = setting-none past k q d.element (at-in past e d.element (get-at past e d.element d.there)) d.is.0 d.is.1
       by (Some v) q most e j d l m g =
           let u = setting-some past k v q in
-          let same = set-once past w r e u.at k d.entry u.entry (get-at past e d.entry d.there) u.there d.event d.set u.is.0 u.is.1 in
+          let same = set-once past w r e u.at k d.element u.entry (get-at past e d.element d.there) u.there d.is.0 d.is.1 u.is.0 u.is.1 in
           let less = not-beyond e j l m g in
           let is = u.count ∙ ap (λ z. count_below past (z + 1)) (sym same) in
           let few = most.1 in
           omega (arith, few, less, is)
 
       own : (o : Option Setting) → setting past k ≡ o → IsUnknown t (seen past t) o → (e : ℕ) → SetsCellAt (in_turn past) e k → IsCallersAt (in_turn past) e t → ⊥
-      own None q most e d c = setting-none past k q d.entry (at-in past e d.entry (get-at past e d.entry d.there)) d.event d.set
+      own None q most e d c = setting-none past k q d.element (at-in past e d.element (get-at past e d.element d.there)) d.is.0 d.is.1
       own (Some v) q most e d c =
           let u = setting-some past k v q in
-          let a = get-at past e d.entry d.there in
-          let same = set-once past w r e u.at k d.entry u.entry a u.there d.event d.set u.is.0 u.is.1 in
-          let one = one-at past u.at u.entry c.entry u.there (subst (λ z. At past z c.entry) same (get-at past e c.entry c.there)) in
-          most.0 (sym u.is.2 ∙ (ap (λ (z : Noted). z.entry.made.caller) one ∙ c.caller))
+          let a = get-at past e d.element d.there in
+          let same = set-once past w r e u.at k d.element u.entry a u.there d.is.0 d.is.1 u.is.0 u.is.1 in
+          let one = one-at past u.at u.entry c.element u.there (subst (λ z. At past z c.element) same (get-at past e c.element c.there)) in
+          most.0 (sym u.is.2 ∙ (ap (λ (z : Noted). z.entry.made.caller) one ∙ c.is))
 
   so-unset : MayBeUnset (in_turn past) s.cells (length past) t k → IsUnsetBy past s t k
   so-unset u = record {
     unknown = by (setting past k) refl;
-    unfreed = λ m q f. (let z = freed-by past w r m f in u.target_unfreed m z.0 q (record { entry = z.1.0; there = at-get past z.0 z.1.0 z.1.1; frees = z.1.2 }) (within past z.0 z.1.0 z.1.1));
+    unfreed = λ m q f. (let z = freed-by past w r m f in u.target_unfreed m z.0 q (record { element = z.1.0; there = at-get past z.0 z.1.0 z.1.1; is = z.1.2 }) (within past z.0 z.1.0 z.1.1));
   }
     where
       by : (o : Option Setting) → setting past k ≡ o → IsUnknown t (seen past t) o
       by None q = tt
       by (Some v) q =
           let c = setting-some past k v q in
-          let set : SetsCellAt (in_turn past) c.at k = record { entry = c.entry; there = at-get past c.at c.entry c.there; event = c.is.0; set = c.is.1 } in (
-            λ e. u.not_own c.at set (within past c.at c.entry c.there) (record { entry = c.entry; there = at-get past c.at c.entry c.there; caller = c.is.2 ∙ e }),
+          let set : SetsCellAt (in_turn past) c.at k = record { element = c.entry; there = at-get past c.at c.entry c.there; is = (c.is.0, c.is.1) } in (
+            λ e. u.not_own c.at set (within past c.at c.entry c.there) (record { element = c.entry; there = at-get past c.at c.entry c.there; is = c.is.2 ∙ e }),
             elim (split (count_below past (c.at + 1)) (seen past t)) [
               | inl less ↦ absurd (let z = beyond c.at less in u.unknown c.at z.0 set z.1 z.2 z.3)
               | inr most ↦ (let is = c.count in omega (arith, most, is))

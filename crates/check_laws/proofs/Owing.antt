@@ -4,7 +4,7 @@ use Rattle.std.specs.Prelude.{slice_get}
 use Rattle.std.proofs.lemmas.Option.{same_Some}
 use Rattle.joint_machine.specs.declared.events.Op.TheVariants as op
 use Rattle.joint_machine.specs.Lines.{is_peer_event, is_read}
-use Rattle.joint_machine.specs.Readers.{is_managed_entry, IsManagedAt, SnapsCycleAt}
+use Rattle.joint_machine.specs.Readers.{is_managed_entry, HasEventAt, IsManagedAt}
 use Rattle.joint_machine.specs.Told.{Noted}
 use Rattle.joint_machine.proofs.Deciding.{none_some, true-false}
 use Rattle.known_laws.specs.PastEntries.{turned}
@@ -82,17 +82,17 @@ pending_owed later x h k quiet fresh = (forth, back)
     all = later ++ x ∷ h
 
     up : (j : ℕ) → ManagedAt all j → IsManagedAt (turned [] all) j
-    up j m = record { entry = m.0; there = at-turned all [] j m.0 m.1; managed = m.2 }
+    up j m = record { element = m.0; there = at-turned all [] j m.0 m.1; is = m.2 }
 
     down : (j : ℕ) → j < length all → IsManagedAt (turned [] all) j → ManagedAt all j
-    down j l m = (m.entry, turned-at all [] j m.entry m.there l, m.managed)
+    down j l m = (m.element, turned-at all [] j m.element m.there l, m.is)
 
     back : (n : Noted) × (first_managed later ≡ Some n) × (n.entry.made.op ≡ op.Snap record { 0 = k }) → (snap : ℕ)
-        × SnapsCycleAt (turned [] all) snap k × ((j : ℕ) → j < snap → IsManagedAt (turned [] all) j → j < length h)
+        × HasEventAt (turned [] all) snap (op.Snap record { 0 = k }) × ((j : ℕ) → j < snap → IsManagedAt (turned [] all) j → j < length h)
     back w =
         let f = first x h quiet later w.0 w.1 in
         let there = within all f.place w.0 f.there in
-        (f.place, record { entry = w.0; there = at-turned all [] f.place w.0 f.there; event = w.2 }, λ j l m. f.early j l (down j (omega (arith, l, there)) m))
+        (f.place, record { element = w.0; there = at-turned all [] f.place w.0 f.there; is = w.2 }, λ j l m. f.early j l (down j (omega (arith, l, there)) m))
 
     in_all : (s : ℕ) (n : Noted) → slice_get (turned [] all) s ≡ Some n → s < length all
     in_all s n e = elim (split s (length all)) [
@@ -100,7 +100,7 @@ pending_owed later x h k quiet fresh = (forth, back)
       | inr more ↦ absurd (none_some n (sym (behind all [] s (s - length all) (omega (arith, more))) ∙ e))
     ]
 
-    forth : (snap : ℕ) × SnapsCycleAt (turned [] all) snap k × ((j : ℕ) → j < snap → IsManagedAt (turned [] all) j → j < length h)
+    forth : (snap : ℕ) × HasEventAt (turned [] all) snap (op.Snap record { 0 = k }) × ((j : ℕ) → j < snap → IsManagedAt (turned [] all) j → j < length h)
         → (n : Noted) × (first_managed later ≡ Some n) × (n.entry.made.op ≡ op.Snap record { 0 = k })
     forth w = by (first_managed later) refl
       where
@@ -108,16 +108,16 @@ pending_owed later x h k quiet fresh = (forth, back)
         s = w.0
 
         n : Noted
-        n = w.1.entry
+        n = w.1.element
 
         at : At all s n
         at = turned-at all [] s n w.1.there (in_all s n w.1.there)
 
         managed : is_managed_entry n ≡ true
-        managed = snap-managed n k w.1.event
+        managed = snap-managed n k w.1.is
 
         not-before : s < length h → ⊥
-        not-before l = fresh s n (lowered later x h s n at l) w.1.event
+        not-before l = fresh s n (lowered later x h s n at l) w.1.is
 
         by : (o : Option Noted) → first_managed later ≡ o → (m : Noted) × (first_managed later ≡ Some m) × (m.entry.made.op ≡ op.Snap record { 0 = k })
         by None e = absurd (not-before (none-later x h quiet later s e (n, at, managed)))
@@ -128,6 +128,6 @@ pending_owed later x h k quiet fresh = (forth, back)
               | inr more ↦ elim (split s f.place) [
                 | inl less ↦ absurd (not-before (f.early s less (n, at, managed)))
                 | inr same ↦ (let q : f.place ≡ s = omega (arith, more, same) in
-                    (m, e, subst (λ (z : Noted). z.entry.made.op ≡ op.Snap record { 0 = k }) (one-at all s n m at (subst (λ z. At all z m) q f.there)) w.1.event))
+                    (m, e, subst (λ (z : Noted). z.entry.made.op ≡ op.Snap record { 0 = k }) (one-at all s n m at (subst (λ z. At all z m) q f.there)) w.1.is))
               ]
             ]

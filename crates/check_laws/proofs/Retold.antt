@@ -19,13 +19,15 @@ use Rattle.joint_machine.specs.Managed.{Managed}
 use Rattle.joint_machine.specs.ManagedReplay.{ManagedReplay, ManagedAllows}
 use Rattle.joint_machine.specs.PeerReplay.{PeerReplay}
 use Rattle.joint_machine.specs.Peers.{Issued}
-use Rattle.joint_machine.specs.Readers.{ReadsCell, IsReadReply, IsManagedAt, SnapsCycleAt, EndsCycleAt, SetsCell, SetsCellAt, IsCallersAt, HasKnownFrom, FreesObject, FreesObjectAt, IsEntryAt}
+use Rattle.joint_machine.specs.Places.{At}
+use Rattle.joint_machine.specs.Readers.{ReadsCell, IsReadReply, HasEventAt, IsManagedAt, EndsCycleAt, SetsCell, SetsCellAt, IsCallersAt, HasKnownFrom, FreesObject, FreesObjectAt}
 use Rattle.joint_machine.specs.Readers.{is_managed_entry, ReaderMayCome, EntryMayCome, entry_after, reader_after, replayed_reading, AllMayComeReading}
 use Rattle.joint_machine.specs.Told.{Told, Noted, phase_of}
 use Rattle.joint_machine.proofs.Deciding.{none_some}
 use Rattle.known_laws.specs.PastEntries.{TellsPlainly, entries}
 use Rattle.known_laws.proofs.Retelling.{Near, PlainComes, plainly, with_stand, noting}
 use Rattle.known_laws.proofs.Telling.{IsTelling}
+use Rattle.check_laws.specs.Known.{IsEntryAt}
 use Rattle.check_laws.proofs.Keeping.{after-read, after-other}
 
 -- one entry told in two ways, which frees the same
@@ -66,33 +68,26 @@ place (x ∷ ns) (y ∷ ms) a (suc i) n e = (let r = place ns ms a.1 i n e in re
 
 -- what is so of a place by its entry
 module _ (ns ms : List Noted) (a : AllAlike ns ms) where
-  managed-so : (i : ℕ) → IsManagedAt ns i → IsManagedAt ms i
-  managed-so i m = (let r = place ns ms a i m.entry m.there in
-      record { entry = r.note; there = r.there; managed = ap (λ e. is_managed_entry (record { entry = e; told = r.note.told })) r.alike.same ∙ m.managed })
+  at-so : {Is : Noted → Type 0} → ((n m : Noted) → Alike n m → Is n → Is m) → (i : ℕ) → At ns i Is → At ms i Is
+  at-so f i m = (let r = place ns ms a i m.element m.there in record { element = r.note; there = r.there; is = f m.element r.note r.alike m.is })
 
-  snaps-so : (i k : ℕ) → SnapsCycleAt ns i k → SnapsCycleAt ms i k
-  snaps-so i k m = (let r = place ns ms a i m.entry m.there in record { entry = r.note; there = r.there; event = ap (λ e. e.made.op) r.alike.same ∙ m.event })
+  managed-so : (i : ℕ) → IsManagedAt ns i → IsManagedAt ms i
+  managed-so = at-so (λ n m q w. ap (λ e. is_managed_entry (record { entry = e; told = m.told })) q.same ∙ w)
+
+  event-so : (i : ℕ) (o : Op) → HasEventAt ns i o → HasEventAt ms i o
+  event-so i o = at-so (λ n m q w. ap (λ e. e.made.op) q.same ∙ w) i
 
   ends-so : (i k : ℕ) → EndsCycleAt ns i k → EndsCycleAt ms i k
-  ends-so i k m = (let r = place ns ms a i m.entry m.there in record {
-    entry = r.note;
-    there = r.there;
-    event = subst (λ o. (o ≡ op.Resolve record { 0 = k }) ⊎ (o ≡ op.Abandon record { 0 = k })) (sym (ap (λ e. e.made.op) r.alike.same)) m.event;
-  })
+  ends-so i k = at-so (λ n m q w. subst (λ o. (o ≡ op.Resolve record { 0 = k }) ⊎ (o ≡ op.Abandon record { 0 = k })) (sym (ap (λ e. e.made.op) q.same)) w) i
 
   sets-so : (i k : ℕ) → SetsCellAt ns i k → SetsCellAt ms i k
-  sets-so i k m = (let r = place ns ms a i m.entry m.there in record {
-    entry = r.note;
-    there = r.there;
-    event = subst (λ o. SetsCell o k) (sym (ap (λ e. e.made.op) r.alike.same)) m.event;
-    set = ap (λ e. e.made.reply) r.alike.same ∙ m.set;
-  })
+  sets-so i k = at-so (λ n m q w. (subst (λ o. SetsCell o k) (sym (ap (λ e. e.made.op) q.same)) w.0, ap (λ e. e.made.reply) q.same ∙ w.1)) i
 
   own-so : (i : ℕ) (t : Thread) → IsCallersAt ns i t → IsCallersAt ms i t
-  own-so i t m = (let r = place ns ms a i m.entry m.there in record { entry = r.note; there = r.there; caller = ap (λ e. e.made.caller) r.alike.same ∙ m.caller })
+  own-so i t = at-so (λ n m q w. ap (λ e. e.made.caller) q.same ∙ w) i
 
   frees-so : (i x : ℕ) → FreesObjectAt ns i x → FreesObjectAt ms i x
-  frees-so i x m = (let r = place ns ms a i m.entry m.there in record { entry = r.note; there = r.there; frees = r.alike.forth x m.frees })
+  frees-so i x = at-so (λ n m q w. q.forth x w) i
 
   known-so : (t : Thread) (i j : ℕ) → HasKnownFrom ns t i j → HasKnownFrom ms t i j
   known-so t i j (x, u, v, c) = (x, u, v, own-so x t c)
@@ -106,7 +101,7 @@ module _ (ns ms : List Noted) (a : AllAlike ns ms) (cells : List (Option ℕ)) (
     pin,
     record {
       snap = m.snap;
-      snaps = snaps-so ns ms a m.snap c.0 m.snaps;
+      snaps = event-so ns ms a m.snap (op.Snap c) m.snaps;
       early = λ j l g. m.early j l (managed-so ms ns b j g);
       unknown = λ end j e l g f. m.unknown end j (ends-so ms ns b end c.0 e) l (managed-so ms ns b j g) (known-so ms ns b t i j f);
     },

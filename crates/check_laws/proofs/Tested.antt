@@ -13,14 +13,15 @@ use Rattle.joint_machine.specs.declared.events.Reply.TheVariants as says
 use Rattle.joint_machine.specs.Lines.{is_peer_event, is_read}
 use Rattle.joint_machine.specs.Linked.{Linkage, managed_after}
 use Rattle.joint_machine.specs.Managed.{Managed, read_cell}
-use Rattle.joint_machine.specs.Readers.{ReadsCell, IsReadReply, is_set_aside, is_managed_entry, IsEntryAt, IsManagedAt, EndsCycleAt, SetsCellAt, IsCallersAt, HasKnownFrom, FreesObjectAt, MayBePending}
-use Rattle.joint_machine.specs.Readers.{MayBeUnset, entry_after}
+use Rattle.joint_machine.specs.Places.{At as StandsAt}
+use Rattle.joint_machine.specs.Readers.{ReadsCell, IsReadReply, is_set_aside, is_managed_entry, HasEventAt, IsManagedAt, EndsCycleAt, SetsCellAt, IsCallersAt, HasKnownFrom, FreesObjectAt}
+use Rattle.joint_machine.specs.Readers.{MayBePending, MayBeUnset, entry_after}
 use Rattle.joint_machine.specs.Run.{thread_number}
 use Rattle.joint_machine.specs.Told.{Noted}
 use Rattle.joint_machine.proofs.Deciding.{none_some, true-false}
 use Rattle.joint_laws.proofs.ReadsAside.{standing-reply}
 use Rattle.known_laws.specs.PastEntries.{InPast}
-use Rattle.check_laws.specs.Known.{At}
+use Rattle.check_laws.specs.Known.{At, IsEntryAt}
 use Rattle.check_laws.specs.Behind.{in_turn, state_of, WaitsForSnap, GivesSnap, IsReplyBehind}
 use Rattle.check_laws.specs.Reads.{AllComeBehind, AreInPlace, AllReadBehind, AllReadOver, ReadersAreTested}
 use Rattle.check_laws.proofs.Knowing.{within, split}
@@ -134,44 +135,20 @@ module _ (front h : List Noted) where
   down : (i : ℕ) (n : Noted) → IsEntryAt wider i n → i < length h → IsEntryAt (in_turn h) i n
   down i n e l = at-get h i n (at-less front h i n (get-at (front ++ h) i n e) l)
 
-  managed-up : (j : ℕ) → IsManagedAt (in_turn h) j → IsManagedAt wider j
-  managed-up j m = record { entry = m.entry; there = up j m.entry m.there; managed = m.managed }
+  at-up : {Is : Noted → Type 0} → (i : ℕ) → StandsAt (in_turn h) i Is → StandsAt wider i Is
+  at-up i e = record { element = e.element; there = up i e.element e.there; is = e.is }
 
-  managed-down : (j : ℕ) → IsManagedAt wider j → j < length h → IsManagedAt (in_turn h) j
-  managed-down j m l = record { entry = m.entry; there = down j m.entry m.there l; managed = m.managed }
+  at-down : {Is : Noted → Type 0} → (i : ℕ) → StandsAt wider i Is → i < length h → StandsAt (in_turn h) i Is
+  at-down i e l = record { element = e.element; there = down i e.element e.there l; is = e.is }
 
   known-up : (t : Thread) (i j : ℕ) → HasKnownFrom (in_turn h) t i j → HasKnownFrom wider t i j
-  known-up t i j (x, a, b, c) = (x, a, b, record { entry = c.entry; there = up x c.entry c.there; caller = c.caller })
+  known-up t i j (x, a, b, c) = (x, a, b, at-up x c)
 
   known-down : (t : Thread) (i j : ℕ) → i ≡ length h → HasKnownFrom wider t i j → HasKnownFrom (in_turn h) t i j
-  known-down t i j e (x, a, b, c) = (x, a, b, record { entry = c.entry; there = down x c.entry c.there (omega (arith, b, e)); caller = c.caller })
+  known-down t i j e (x, a, b, c) = (x, a, b, at-down x c (omega (arith, b, e)))
 
   known-less : (t : Thread) (i j : ℕ) → i ≡ length h → HasKnownFrom wider t i j → j < length h
   known-less t i j e (x, a, b, c) = omega (arith, a, b, e)
-
-  ends-up : (i k : ℕ) → EndsCycleAt (in_turn h) i k → EndsCycleAt wider i k
-  ends-up i k e = record { entry = e.entry; there = up i e.entry e.there; event = e.event }
-
-  ends-down : (i k : ℕ) → EndsCycleAt wider i k → i < length h → EndsCycleAt (in_turn h) i k
-  ends-down i k e l = record { entry = e.entry; there = down i e.entry e.there l; event = e.event }
-
-  sets-up : (i k : ℕ) → SetsCellAt (in_turn h) i k → SetsCellAt wider i k
-  sets-up i k e = record { entry = e.entry; there = up i e.entry e.there; event = e.event; set = e.set }
-
-  sets-down : (i k : ℕ) → SetsCellAt wider i k → i < length h → SetsCellAt (in_turn h) i k
-  sets-down i k e l = record { entry = e.entry; there = down i e.entry e.there l; event = e.event; set = e.set }
-
-  own-up : (i : ℕ) (t : Thread) → IsCallersAt (in_turn h) i t → IsCallersAt wider i t
-  own-up i t e = record { entry = e.entry; there = up i e.entry e.there; caller = e.caller }
-
-  own-down : (i : ℕ) (t : Thread) → IsCallersAt wider i t → i < length h → IsCallersAt (in_turn h) i t
-  own-down i t e l = record { entry = e.entry; there = down i e.entry e.there l; caller = e.caller }
-
-  frees-up : (i m : ℕ) → FreesObjectAt (in_turn h) i m → FreesObjectAt wider i m
-  frees-up i m e = record { entry = e.entry; there = up i e.entry e.there; frees = e.frees }
-
-  frees-down : (i m : ℕ) → FreesObjectAt wider i m → i < length h → FreesObjectAt (in_turn h) i m
-  frees-down i m e l = record { entry = e.entry; there = down i e.entry e.there l; frees = e.frees }
 
 -- no cycle is snapped twice
 snap-once : (h : List Noted) → AllComeBehind h → AllStand h → (i j k : ℕ) (n m : Noted) → At h i n → At h j m
@@ -258,25 +235,25 @@ module _ (front : List Noted) (x : Noted) (h : List Noted) (w : AllComeBehind (f
     -- what was known of a snapped cycle
     pending-over : MayBePending (in_turn h) x.entry.number t k → MayBePending (in_turn all) x.entry.number t k
     pending-over m =
-        let low : m.snap < length h = within h m.snap m.snaps.entry (get-at h m.snap m.snaps.entry m.snaps.there) in
+        let low : m.snap < length h = within h m.snap m.snaps.element (get-at h m.snap m.snaps.element m.snaps.there) in
         record {
           snap = m.snap;
-          snaps = record { entry = m.snaps.entry; there = lift (λ z. IsEntryAt (in_turn z) m.snap m.snaps.entry) (up (front ++ x ∷ []) h m.snap m.snaps.entry m.snaps.there); event = m.snaps.event };
+          snaps = lift (λ z. HasEventAt (in_turn z) m.snap (op.Snap record { 0 = k })) (at-up (front ++ x ∷ []) h m.snap m.snaps);
           early = λ j l g. (let e = number in omega (arith, l, low, e));
           unknown = λ end j e l g f.
               let f' = drop (λ z. HasKnownFrom (in_turn z) t x.entry.number j) f in
               let j-low = known-less (front ++ x ∷ []) h t x.entry.number j number f' in
-              m.unknown end j (ends-down (front ++ x ∷ []) h end k (drop (λ z. EndsCycleAt (in_turn z) end k) e) (omega (arith, l, j-low))) l
-              (managed-down (front ++ x ∷ []) h j (drop (λ z. IsManagedAt (in_turn z) j) g) j-low) (known-down (front ++ x ∷ []) h t x.entry.number j number f');
+              m.unknown end j (at-down (front ++ x ∷ []) h end (drop (λ z. EndsCycleAt (in_turn z) end k) e) (omega (arith, l, j-low))) l
+              (at-down (front ++ x ∷ []) h j (drop (λ z. IsManagedAt (in_turn z) j) g) j-low) (known-down (front ++ x ∷ []) h t x.entry.number j number f');
         }
 
     pending-behind : (m : MayBePending (in_turn all) x.entry.number t k) → m.snap < length h → MayBePending (in_turn h) x.entry.number t k
     pending-behind m low = record {
       snap = m.snap;
-      snaps = record { entry = m.snaps.entry; there = down (front ++ x ∷ []) h m.snap m.snaps.entry (drop (λ z. IsEntryAt (in_turn z) m.snap m.snaps.entry) m.snaps.there) low; event = m.snaps.event };
+      snaps = at-down (front ++ x ∷ []) h m.snap (drop (λ z. HasEventAt (in_turn z) m.snap (op.Snap record { 0 = k })) m.snaps) low;
       early = λ j l g. (let e = number in omega (arith, l, low, e));
-      unknown = λ end j e l g f. m.unknown end j (lift (λ z. EndsCycleAt (in_turn z) end k) (ends-up (front ++ x ∷ []) h end k e)) l
-          (lift (λ z. IsManagedAt (in_turn z) j) (managed-up (front ++ x ∷ []) h j g)) (lift (λ z. HasKnownFrom (in_turn z) t x.entry.number j) (known-up (front ++ x ∷ []) h t x.entry.number j f));
+      unknown = λ end j e l g f. m.unknown end j (lift (λ z. EndsCycleAt (in_turn z) end k) (at-up (front ++ x ∷ []) h end e)) l
+          (lift (λ z. IsManagedAt (in_turn z) j) (at-up (front ++ x ∷ []) h j g)) (lift (λ z. HasKnownFrom (in_turn z) t x.entry.number j) (known-up (front ++ x ∷ []) h t x.entry.number j f));
     }
 
     unset-over : MayBeUnset (in_turn h) s.cells x.entry.number t k → MayBeUnset (in_turn all) end_cells x.entry.number t k
@@ -284,26 +261,26 @@ module _ (front : List Noted) (x : Noted) (h : List Noted) (w : AllComeBehind (f
       unknown = λ set j e l g f.
           let f' = drop (λ z. HasKnownFrom (in_turn z) t x.entry.number j) f in
           let j-low = known-less (front ++ x ∷ []) h t x.entry.number j number f' in
-          u.unknown set j (sets-down (front ++ x ∷ []) h set k (drop (λ z. SetsCellAt (in_turn z) set k) e) (omega (arith, l, j-low))) l
-          (managed-down (front ++ x ∷ []) h j (drop (λ z. IsManagedAt (in_turn z) j) g) j-low) (known-down (front ++ x ∷ []) h t x.entry.number j number f');
+          u.unknown set j (at-down (front ++ x ∷ []) h set (drop (λ z. SetsCellAt (in_turn z) set k) e) (omega (arith, l, j-low))) l
+          (at-down (front ++ x ∷ []) h j (drop (λ z. IsManagedAt (in_turn z) j) g) j-low) (known-down (front ++ x ∷ []) h t x.entry.number j number f');
       not_own = λ set e l o.
           let low : set < length h = (let q = number in omega (arith, l, q)) in
-          u.not_own set (sets-down (front ++ x ∷ []) h set k (drop (λ z. SetsCellAt (in_turn z) set k) e) low) l (own-down (front ++ x ∷ []) h set t (drop (λ z. IsCallersAt (in_turn z) set t) o) low);
+          u.not_own set (at-down (front ++ x ∷ []) h set (drop (λ z. SetsCellAt (in_turn z) set k) e) low) l (at-down (front ++ x ∷ []) h set (drop (λ z. IsCallersAt (in_turn z) set t) o) low);
       target_unfreed = λ m j e f l.
-          let f' = frees-down (front ++ x ∷ []) h j m (drop (λ z. FreesObjectAt (in_turn z) j m) f) (let q = number in omega (arith, l, q)) in
+          let f' = at-down (front ++ x ∷ []) h j (drop (λ z. FreesObjectAt (in_turn z) j m) f) (let q = number in omega (arith, l, q)) in
           elim (apart.was_live k m e) [
             | inl q ↦ u.target_unfreed m j q f' l
-            | inr live ↦ live (freed-in h w-here.1 r-here.1 f'.entry m (at-in h j f'.entry (get-at h j f'.entry f'.there)) f'.frees)
+            | inr live ↦ live (freed-in h w-here.1 r-here.1 f'.element m (at-in h j f'.element (get-at h j f'.element f'.there)) f'.is)
           ];
     }
 
     unset-behind : MayBeUnset (in_turn all) end_cells x.entry.number t k → MayBeUnset (in_turn h) s.cells x.entry.number t k
     unset-behind u = record {
-      unknown = λ set j e l g f. u.unknown set j (lift (λ z. SetsCellAt (in_turn z) set k) (sets-up (front ++ x ∷ []) h set k e)) l
-          (lift (λ z. IsManagedAt (in_turn z) j) (managed-up (front ++ x ∷ []) h j g)) (lift (λ z. HasKnownFrom (in_turn z) t x.entry.number j) (known-up (front ++ x ∷ []) h t x.entry.number j f));
-      not_own = λ set e l o. u.not_own set (lift (λ z. SetsCellAt (in_turn z) set k) (sets-up (front ++ x ∷ []) h set k e)) l
-          (lift (λ z. IsCallersAt (in_turn z) set t) (own-up (front ++ x ∷ []) h set t o));
-      target_unfreed = λ m j e f l. u.target_unfreed m j (apart.stay k m e) (lift (λ z. FreesObjectAt (in_turn z) j m) (frees-up (front ++ x ∷ []) h j m f)) l;
+      unknown = λ set j e l g f. u.unknown set j (lift (λ z. SetsCellAt (in_turn z) set k) (at-up (front ++ x ∷ []) h set e)) l
+          (lift (λ z. IsManagedAt (in_turn z) j) (at-up (front ++ x ∷ []) h j g)) (lift (λ z. HasKnownFrom (in_turn z) t x.entry.number j) (known-up (front ++ x ∷ []) h t x.entry.number j f));
+      not_own = λ set e l o. u.not_own set (lift (λ z. SetsCellAt (in_turn z) set k) (at-up (front ++ x ∷ []) h set e)) l
+          (lift (λ z. IsCallersAt (in_turn z) set t) (at-up (front ++ x ∷ []) h set o));
+      target_unfreed = λ m j e f l. u.target_unfreed m j (apart.stay k m e) (lift (λ z. FreesObjectAt (in_turn z) j m) (at-up (front ++ x ∷ []) h j f)) l;
     }
 
   module _ (read : is_read x.entry.made.op ≡ true) (t : Thread) (k : ℕ) where
@@ -311,9 +288,9 @@ module _ (front : List Noted) (x : Noted) (h : List Noted) (w : AllComeBehind (f
     -- number
     pending-next : (m : MayBePending (in_turn all) x.entry.number t k) → length h < m.snap → (s.cycle ≡ None) × (k ≡ s.cycles + 1)
     pending-next m far =
-        let a = get-at all m.snap m.snaps.entry m.snaps.there in
-        let c = cut all m.snap m.snaps.entry a in
-        by c (shorter front c.front c.back m.snaps.entry c.all (let q = c.place in omega (arith, far, q)))
+        let a = get-at all m.snap m.snaps.element m.snaps.there in
+        let c = cut all m.snap m.snaps.element a in
+        by c (shorter front c.front c.back m.snaps.element c.all (let q = c.place in omega (arith, far, q)))
       where
         -- the cut is in front of the read
         shorter : (f g b : List Noted) (n : Noted) → f ++ x ∷ h ≡ g ++ n ∷ b → length h < length b → (mid : List Noted) × (b ≡ mid ++ x ∷ h)
@@ -336,17 +313,17 @@ module _ (front : List Noted) (x : Noted) (h : List Noted) (w : AllComeBehind (f
                 rest [] = us
                 rest (z ∷ zs) = zs
 
-        by : (c : Cut all m.snap m.snaps.entry) → (mid : List Noted) × (c.back ≡ mid ++ x ∷ h) → (s.cycle ≡ None) × (k ≡ s.cycles + 1)
+        by : (c : Cut all m.snap m.snaps.element) → (mid : List Noted) × (c.back ≡ mid ++ x ∷ h) → (s.cycle ≡ None) × (k ≡ s.cycles + 1)
         by c (mid, e) =
             let back-in : (j : ℕ) (n : Noted) → At (mid ++ x ∷ h) j n
-            → At all j n = λ j n q. subst (λ z. At z j n) (sym c.all) (at-more c.front (m.snaps.entry ∷ c.back) j n (inr (subst (λ z. At z j n) (sym e) q))) in
+            → At all j n = λ j n q. subst (λ z. At z j n) (sym c.all) (at-more c.front (m.snaps.element ∷ c.back) j n (inr (subst (λ z. At z j n) (sym e) q))) in
             let z = quiet mid (x ∷ h) (λ j n q l g.
             let low = m.early j (let v = within (mid ++ x ∷ h) j n q in let u = ap length e in let y = c.place in omega (arith, v, u, y))
-            (record { entry = n; there = at-get all j n (back-in j n q); managed = g }) in
+            (record { element = n; there = at-get all j n (back-in j n q); is = g }) in
             let v = number in omega (arith, low, l, v)) in
             let o = quiet-on (state_of h) x (read-unmanaged x read) in
-            let w' = all_come-back c.front (m.snaps.entry ∷ c.back) (subst AllComeBehind c.all w) in
-            let i = opens-on (state_of c.back) m.snaps.entry k w'.0 m.snaps.event in
+            let w' = all_come-back c.front (m.snaps.element ∷ c.back) (subst AllComeBehind c.all w) in
+            let i = opens-on (state_of c.back) m.snaps.element k w'.0 m.snaps.is in
             let i' = subst (λ z. ((state_of z).managed.managed.cycle ≡ None) × (k ≡ (state_of z).managed.managed.cycles + 1)) e (i.closed, i.next) in
             (sym o.cycle ∙ sym z.cycle ∙ i'.0, (let a = i'.1 in let b = z.cycles in let d = o.cycles in omega (arith, a, b, d)))
 
@@ -366,13 +343,13 @@ module _ (front : List Noted) (x : Noted) (h : List Noted) (w : AllComeBehind (f
             let a = in-at all n p f.1 in
             record {
               snap = n.entry.number;
-              snaps = record { entry = n; there = at-get all n.entry.number n a; event = f.2 };
+              snaps = record { element = n; there = at-get all n.entry.number n a; is = f.2 };
               early = λ j l g. early n f.2 a j l g;
               unknown = λ end j e l g q.
                   let q' = drop (λ z. HasKnownFrom (in_turn z) t x.entry.number j) q in
                   let j-low = known-less (front ++ x ∷ []) h t x.entry.number j number q' in
-                  let e' = ends-down (front ++ x ∷ []) h end k (drop (λ z. EndsCycleAt (in_turn z) end k) e) (omega (arith, l, j-low)) in
-                  let few = end-counted h w-here.1 r-here.1 e'.entry k (at-in h end e'.entry (get-at h end e'.entry e'.there)) e'.event in
+                  let e' = at-down (front ++ x ∷ []) h end (drop (λ z. EndsCycleAt (in_turn z) end k) e) (omega (arith, l, j-low)) in
+                  let few = end-counted h w-here.1 r-here.1 e'.element k (at-in h end e'.element (get-at h end e'.element e'.there)) e'.is in
                   omega (arith, few, next);
             }
           where
@@ -382,33 +359,33 @@ module _ (front : List Noted) (x : Noted) (h : List Noted) (w : AllComeBehind (f
 
             early : (n : Noted) → n.entry.made.op ≡ op.Snap record { 0 = k } → At all n.entry.number n → (j : ℕ) → j < n.entry.number → IsManagedAt (in_turn all) j → j < x.entry.number
             early n e a j l g =
-                let b' = get-at all j g.entry g.there in
+                let b' = get-at all j g.element g.there in
                 elim (split j (length h)) [
                   | inl less ↦ (let q = number in omega (arith, less, q))
                   | inr far ↦ absurd (
-                      let c = cut all j g.entry b' in
-                      let there : At all j g.entry = b' in
+                      let c = cut all j g.element b' in
+                      let there : At all j g.element = b' in
                       elim (split (length h) j) [
-                        | inr less ↦ (let same : length h ≡ j = omega (arith, less, far) in let q = one-at all j g.entry x b' (subst (λ z. At all z x) same x-at) in
-                            true-false (is_managed_entry x) (subst (λ z. is_managed_entry z ≡ true) q g.managed) (read-unmanaged x read))
+                        | inr less ↦ (let same : length h ≡ j = omega (arith, less, far) in let q = one-at all j g.element x b' (subst (λ z. At all z x) same x-at) in
+                            true-false (is_managed_entry x) (subst (λ z. is_managed_entry z ≡ true) q g.is) (read-unmanaged x read))
                         | inl less ↦ (
-                            let gs = gives c.front c.back g.entry (subst AllReadBehind c.all b) in
-                            let x-back : At c.back (length h) x = at-less (g.entry ∷ []) c.back (length h) x
-                            (at-less c.front (g.entry ∷ c.back) (length h) x (subst (λ z. At z (length h) x) c.all x-at) (let q = c.place in omega (arith, less, q)))
+                            let gs = gives c.front c.back g.element (subst AllReadBehind c.all b) in
+                            let x-back : At c.back (length h) x = at-less (g.element ∷ []) c.back (length h) x
+                            (at-less c.front (g.element ∷ c.back) (length h) x (subst (λ z. At z (length h) x) c.all x-at) (let q = c.place in omega (arith, less, q)))
                             (let q = c.place in omega (arith, less, q)) in
-                            let is = gs g.managed k (record {
+                            let is = gs g.is k (record {
                               entry = x;
                               there = at-in c.back (length h) x x-back;
                               read = read;
                               reply = says;
                               unsnapped = λ m i f.
-                                  let i' = in-at all m p (subst (λ z. InPast z m) (sym c.all) (in-more c.front (g.entry ∷ c.back) m (inr i))) in
+                                  let i' = in-at all m p (subst (λ z. InPast z m) (sym c.all) (in-more c.front (g.element ∷ c.back) m (inr i))) in
                                   let low : m.entry.number < n.entry.number = (let q = within
-                                  c.back m.entry.number m (in-at c.back m (in_place-back c.front (g.entry ∷ c.back) (subst AreInPlace c.all p)).1 i) in let v = c.place in omega (arith, q, v, l))
+                                  c.back m.entry.number m (in-at c.back m (in_place-back c.front (g.element ∷ c.back) (subst AreInPlace c.all p)).1 i) in let v = c.place in omega (arith, q, v, l))
                                   in
                                   snap-once all w r n.entry.number m.entry.number k n m a i' low e f;
                             }) in
-                            snap-once all w r n.entry.number j k n g.entry a b' l e is)
+                            snap-once all w r n.entry.number j k n g.element a b' l e is)
                       ])
                 ]
 
@@ -422,8 +399,8 @@ module _ (front : List Noted) (x : Noted) (h : List Noted) (w : AllComeBehind (f
 
     not-here : (k : ℕ) → (m : MayBePending (in_turn all) x.entry.number t k) → m.snap ≡ length h → ⊥
     not-here k m e =
-        let q = one-at all (length h) m.snaps.entry x (subst (λ z. At all z m.snaps.entry) e (get-at all m.snap m.snaps.entry m.snaps.there)) x-at in
-        let f : true ≡ false = sym read ∙ (ap (λ (z : Noted). is_read z.entry.made.op) (sym q) ∙ ap is_read m.snaps.event) in
+        let q = one-at all (length h) m.snaps.element x (subst (λ z. At all z m.snaps.element) e (get-at all m.snap m.snaps.element m.snaps.there)) x-at in
+        let f : true ≡ false = sym read ∙ (ap (λ (z : Noted). is_read z.entry.made.op) (sym q) ∙ ap is_read m.snaps.is) in
         true-false true refl f
 
     reply-behind : (reply : Reply) → IsReadReply (in_turn all) end_cells s x.entry.number t c reply → IsReplyBehind h s x.entry.number t c reply
@@ -492,24 +469,24 @@ module _ (all : List Noted) (w : AllComeBehind all) (p : AreInPlace all) where
       gives : GivesSnap h x
       gives g k v =
           let m = over-pending (in_turn all) end h q.1 v.entry k v.there v.read v.reply in
-          let a = get-at all m.snap m.snaps.entry m.snaps.there in
-          let a' = subst (λ z. At z m.snap m.snaps.entry) e a in
+          let a = get-at all m.snap m.snaps.element m.snaps.there in
+          let a' = subst (λ z. At z m.snap m.snaps.element) e a in
           let here = in-at h v.entry (in_place-back front (x ∷ h) (subst AreInPlace e p)).1 v.there in
           let low = within h v.entry.entry.number v.entry here in
           elim (split m.snap (length h)) [
-            | inl less ↦ absurd (v.unsnapped m.snaps.entry (at-in h m.snap m.snaps.entry
-                (at-less (x ∷ []) h m.snap m.snaps.entry (at-less front (x ∷ h) m.snap m.snaps.entry a' (omega (arith, less))) less)) m.snaps.event)
+            | inl less ↦ absurd (v.unsnapped m.snaps.element (at-in h m.snap m.snaps.element
+                (at-less (x ∷ []) h m.snap m.snaps.element (at-less front (x ∷ h) m.snap m.snaps.element a' (omega (arith, less))) less)) m.snaps.is)
             | inr far ↦ elim (split (length h) m.snap) [
-              | inl more ↦ absurd (let z = m.early (length h) more (record { entry = x; there = at-get all (length h) x x-at; managed = g }) in omega (arith, z, low))
-              | inr same ↦ ap (λ (z : Noted). z.entry.made.op) (one-at all (length h) x m.snaps.entry x-at
-                  (subst (λ z. At all z m.snaps.entry) (let u : m.snap ≡ length h = omega (arith, far, same) in u) a)) ∙ m.snaps.event
+              | inl more ↦ absurd (let z = m.early (length h) more (record { element = x; there = at-get all (length h) x x-at; is = g }) in omega (arith, z, low))
+              | inr same ↦ ap (λ (z : Noted). z.entry.made.op) (one-at all (length h) x m.snaps.element x-at
+                  (subst (λ z. At all z m.snaps.element) (let u : m.snap ≡ length h = omega (arith, far, same) in u) a)) ∙ m.snaps.is
             ]
           ]
 
   none-waits : AllReadOver (in_turn all) end all → (j : ℕ) → WaitsForSnap all j → ⊥
   none-waits o k v =
       let m = over-pending (in_turn all) end all o v.entry k v.there v.read v.reply in
-      v.unsnapped m.snaps.entry (at-in all m.snap m.snaps.entry (get-at all m.snap m.snaps.entry m.snaps.there)) m.snaps.event
+      v.unsnapped m.snaps.element (at-in all m.snap m.snaps.element (get-at all m.snap m.snaps.element m.snaps.there)) m.snaps.is
 
 pub readers_tested : ReadersAreTested
 readers_tested all w p = (

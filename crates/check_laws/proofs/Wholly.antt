@@ -3,10 +3,10 @@ use Rattle.std.proofs.Common.{◌≡◌, ℕ, suc, ◌+◌, ◌<◌, ◌≤◌, 
 use Rattle.std.specs.Prelude.{slice_get}
 use Rattle.std.proofs.lemmas.Option.{same_Some}
 use Rattle.joint_machine.specs.declared.names.Thread.{Thread}
-use Rattle.joint_machine.specs.Readers.{IsEntryAt, IsManagedAt, HasKnownFrom}
+use Rattle.joint_machine.specs.Readers.{IsManagedAt, HasKnownFrom}
 use Rattle.joint_machine.specs.Told.{Noted}
 use Rattle.known_laws.specs.PastEntries.{turned}
-use Rattle.check_laws.specs.Known.{At, count_below, seen, KindAt, KindIn, UnknownIsTested}
+use Rattle.check_laws.specs.Known.{At, count_below, seen, IsEntryAt, KindAt, KindIn, UnknownIsTested}
 use Rattle.check_laws.proofs.Knowing.{within, split, forth, back}
 
 -- a list turned round, behind what is put to it
@@ -60,8 +60,8 @@ module _ (later : List Noted) (x : Noted) (h : List Noted) where
       | inl less ↦ absurd (
           let r = back h t e less in
           let c = r.3 in
-          w e r.0 (k.0, up e k.0 k.1, k.2) r.1 (record { entry = r.2.0; there = up r.0 r.2.0 r.2.1; managed = r.2.2 })
-          (c.0, c.1, within h c.0 c.2.0 c.2.1, record { entry = c.2.0; there = up c.0 c.2.0 c.2.1; caller = c.2.2 }))
+          w e r.0 (k.0, up e k.0 k.1, k.2) r.1 (record { element = r.2.0; there = up r.0 r.2.0 r.2.1; is = r.2.2 })
+          (c.0, c.1, within h c.0 c.2.0 c.2.1, record { element = c.2.0; there = up c.0 c.2.0 c.2.1; is = c.2.2 }))
       | inr more ↦ more
     ]
 
@@ -71,7 +71,7 @@ module _ (later : List Noted) (x : Noted) (h : List Noted) where
         let low = c.2 in
         let j_in : j < length h = omega (arith, at, low) in
         let e_in : e < length h = omega (arith, l, j_in) in
-        let less = forth h t e j l (m.entry, down j m.entry m.there j_in, m.managed) (c.0, at, (c.3.entry, down c.0 c.3.entry c.3.there low, c.3.caller)) in
+        let less = forth h t e j l (m.element, down j m.element m.there j_in, m.is) (c.0, at, (c.3.element, down c.0 c.3.element c.3.there low, c.3.is)) in
         let most = w e (k.0, down e k.0 k.1 e_in, k.2) in
         omega (arith, less, most)
 

@@ -15,12 +15,13 @@ use Rattle.joint_machine.specs.Linked.{Linkage, opening_linkage}
 use Rattle.joint_machine.specs.LinkedHistories.{linked_end, managed_end, IsLinkedBy}
 use Rattle.joint_machine.specs.Managed.{Managed, read_cell}
 use Rattle.joint_machine.specs.PeerReplay.{is_thread}
+use Rattle.joint_machine.specs.Places.{At}
 use Rattle.joint_machine.specs.Lines.{is_read}
-use Rattle.joint_machine.specs.Readers.{is_managed_entry, ReadsCell, SetsCell, FreesObject, IsManagedAt, SnapsCycleAt, EndsCycleAt, SetsCellAt, IsCallersAt, FreesObjectAt, HasKnownFrom, MayBePending}
+use Rattle.joint_machine.specs.Readers.{is_managed_entry, ReadsCell, SetsCell, FreesObject, HasEventAt, IsManagedAt, EndsCycleAt, SetsCellAt, IsCallersAt, FreesObjectAt, HasKnownFrom, MayBePending}
 use Rattle.joint_machine.specs.Readers.{MayBeUnset, IsReadReply, ReaderMayCome, EntryMayCome, entry_after, AllMayComeReading}
 use Rattle.joint_machine.specs.Run.{thread_number}
 use Rattle.joint_machine.specs.Told.{Told, nothing, snap_of, resolution_of, Noted}
-use Rattle.computed_histories.specs.Lists.{implies}
+use Rattle.computed_histories.specs.Lists.{has_that, implies}
 use Rattle.computed_histories.specs.Readings.{places, snaps_cycle, ends_cycle, sets_cell, frees_object, is_managed_at, snaps_cycle_at, ends_cycle_at, sets_cell_at, is_callers_at, frees_object_at}
 use Rattle.computed_histories.specs.Readings.{is_known_from, is_later_known, may_be_pending, may_be_unset, is_read_reply, reads_rightly, is_bare, reader_may_come, entry_may_come, all_may_come_reading}
 use Rattle.computed_histories.specs.Readings.{finished_of, is_linked, PendingIsTested, UnsetIsTested, ReadingIsTested, LinkedIsTested, LinkedHasQueued}
@@ -78,36 +79,34 @@ frees (resolution_of given freed) m = member nat_eq same freed m
 frees _ m = never (λ z. z)
 
 -- the same of the entry at a place
-managed_at : (ns : List Noted) (i : ℕ) → Tells (is_managed_at ns i) (IsManagedAt ns i)
-managed_at ns i = like (λ p. record { entry = p.0; there = p.1; managed = p.2 }) (λ r. (r.entry, r.there, r.managed))
-    (that (slice_get ns i) is_managed_entry (λ n. is_managed_entry n ≡ true) (λ n. is_true (is_managed_entry n)))
+stands : (ns : List Noted) (i : ℕ) (test : Noted → Bool) (Is : Noted → Type 0) → ((n : Noted) → Tells (test n) (Is n)) → Tells (has_that test (slice_get ns i)) (At ns i Is)
+stands ns i test Is t = like (λ p. record { element = p.0; there = p.1; is = p.2 }) (λ r. (r.element, r.there, r.is)) (that (slice_get ns i) test Is t)
 
-snaps_at : (ns : List Noted) (i k : ℕ) → Tells (snaps_cycle_at ns i k) (SnapsCycleAt ns i k)
-snaps_at ns i k = like (λ p. record { entry = p.0; there = p.1; event = p.2 }) (λ r. (r.entry, r.there, r.event))
-    (that (slice_get ns i) (λ n. snaps_cycle n.entry.made.op k) (λ n. n.entry.made.op ≡ op.Snap record { 0 = k }) (λ n. snaps n.entry.made.op k))
+managed_at : (ns : List Noted) (i : ℕ) → Tells (is_managed_at ns i) (IsManagedAt ns i)
+managed_at ns i = stands ns i is_managed_entry (λ n. is_managed_entry n ≡ true) (λ n. is_true (is_managed_entry n))
+
+snaps_at : (ns : List Noted) (i k : ℕ) → Tells (snaps_cycle_at ns i k) (HasEventAt ns i (op.Snap record { 0 = k }))
+snaps_at ns i k = stands ns i (λ n. snaps_cycle n.entry.made.op k) (λ n. n.entry.made.op ≡ op.Snap record { 0 = k }) (λ n. snaps n.entry.made.op k)
 
 ends_at : (ns : List Noted) (i k : ℕ) → Tells (ends_cycle_at ns i k) (EndsCycleAt ns i k)
-ends_at ns i k = like (λ p. record { entry = p.0; there = p.1; event = p.2 }) (λ r. (r.entry, r.there, r.event))
-    (that (slice_get ns i) (λ n. ends_cycle n.entry.made.op k) (λ n. (n.entry.made.op ≡ op.Resolve record { 0 = k }) ⊎ (n.entry.made.op ≡ op.Abandon record { 0 = k })) (λ n. ends n.entry.made.op k))
+ends_at ns i k = stands ns i (λ n. ends_cycle n.entry.made.op k)
+    (λ n. (n.entry.made.op ≡ op.Resolve record { 0 = k }) ⊎ (n.entry.made.op ≡ op.Abandon record { 0 = k })) (λ n. ends n.entry.made.op k)
 
 sets_at : (ns : List Noted) (i k : ℕ) → Tells (sets_cell_at ns i k) (SetsCellAt ns i k)
-sets_at ns i k = like (λ p. record { entry = p.0; there = p.1; event = p.2.0; set = p.2.1 }) (λ r. (r.entry, r.there, (r.event, r.set)))
-    (that (slice_get ns i) (λ n. sets_cell n.entry.made.op k && same_reply n.entry.made.reply says.Ok) (λ n. SetsCell n.entry.made.op k × (n.entry.made.reply ≡ says.Ok))
-    (λ n. and2 (sets n.entry.made.op k) (replies n.entry.made.reply says.Ok)))
+sets_at ns i k = stands ns i (λ n. sets_cell n.entry.made.op k && same_reply n.entry.made.reply says.Ok)
+    (λ n. SetsCell n.entry.made.op k × (n.entry.made.reply ≡ says.Ok)) (λ n. and2 (sets n.entry.made.op k) (replies n.entry.made.reply says.Ok))
 
 callers_at : (ns : List Noted) (i : ℕ) (t : Thread) → Tells (is_callers_at ns i t) (IsCallersAt ns i t)
-callers_at ns i t = like (λ p. record { entry = p.0; there = p.1; caller = p.2 }) (λ r. (r.entry, r.there, r.caller))
-    (that (slice_get ns i) (λ n. is_thread n.entry.made.caller t) (λ n. n.entry.made.caller ≡ t) (λ n. threads n.entry.made.caller t))
+callers_at ns i t = stands ns i (λ n. is_thread n.entry.made.caller t) (λ n. n.entry.made.caller ≡ t) (λ n. threads n.entry.made.caller t)
 
 frees_at : (ns : List Noted) (i m : ℕ) → Tells (frees_object_at ns i m) (FreesObjectAt ns i m)
-frees_at ns i m = like (λ p. record { entry = p.0; there = p.1; frees = p.2 }) (λ r. (r.entry, r.there, r.frees))
-    (that (slice_get ns i) (λ n. frees_object n.told m) (λ n. FreesObject n.told m) (λ n. frees n.told m))
+frees_at ns i m = stands ns i (λ n. frees_object n.told m) (λ n. FreesObject n.told m) (λ n. frees n.told m)
 
 -- what the caller knows
 known_from : (ns : List Noted) (t : Thread) (i j : ℕ) → Tells (is_known_from ns t i j) (HasKnownFrom ns t i j)
 known_from ns t i j = like (λ p. (p.0, p.1.0, p.1.1, p.1.2)) (λ r. (r.0, (r.1, r.2, r.3)))
     (some_place ns (λ x. nat_le j x && nat_lt x i && is_callers_at ns x t) (λ x. (j ≤ x) × (x < i) × IsCallersAt ns x t)
-    (λ x. and3 (upto j x) (less x i) (callers_at ns x t)) (λ x p. in_places ns x p.2.entry p.2.there))
+    (λ x. and3 (upto j x) (less x i) (callers_at ns x t)) (λ x p. in_places ns x p.2.element p.2.there))
 
 abbrev IsLaterKnown : List Noted → Thread → ℕ → ℕ → Type 0
 IsLaterKnown ns t i from = (j : ℕ) × (from < j) × IsManagedAt ns j × HasKnownFrom ns t i j
@@ -116,21 +115,21 @@ later_known : (ns : List Noted) (t : Thread) (i from : ℕ) → Tells (is_later_
 later_known ns t i from = like (λ p. (p.0, p.1.0, p.1.1, p.1.2)) (λ r. (r.0, (r.1, r.2, r.3)))
     (some_place ns (λ j. nat_lt from j && is_managed_at ns j && is_known_from ns t i j)
     (λ j. (from < j) × IsManagedAt ns j × HasKnownFrom ns t i j) (λ j. and3 (less from j) (managed_at ns j) (known_from ns t i j))
-    (λ j p. in_places ns j p.1.entry p.1.there))
+    (λ j p. in_places ns j p.1.element p.1.there))
 
 -- pending
 pub pending : (ns : List Noted) (i : ℕ) (t : Thread) (k : ℕ) → Tells (may_be_pending ns i t k) (MayBePending ns i t k)
 pending ns i t k = like
-    (λ p. record { snap = p.0.0; snaps = p.0.1.0; early = λ j b m. p.0.1.1 j (in_places ns j m.entry m.there) (b, m); unknown = λ end j e l m h. p.1 (end, (e, (j, l, m, h))) })
+    (λ p. record { snap = p.0.0; snaps = p.0.1.0; early = λ j b m. p.0.1.1 j (in_places ns j m.element m.there) (b, m); unknown = λ end j e l m h. p.1 (end, (e, (j, l, m, h))) })
     (λ r. ((r.snap, (r.snaps, λ j c b. r.early j b.0 b.1)), λ q. r.unknown q.0 q.1.1.0 q.1.0 q.1.1.1 q.1.1.2 q.1.1.3))
     (and2
     (some_place ns (λ snap. snaps_cycle_at ns snap k && list_all (λ j. implies (nat_lt j snap && is_managed_at ns j) (nat_lt j i)) (places ns))
-    (λ snap. SnapsCycleAt ns snap k × ((j : ℕ) → Contains (places ns) j → (j < snap) × IsManagedAt ns j → j < i))
+    (λ snap. HasEventAt ns snap (op.Snap record { 0 = k }) × ((j : ℕ) → Contains (places ns) j → (j < snap) × IsManagedAt ns j → j < i))
     (λ snap. and2 (snaps_at ns snap k) (all_in (places ns) (λ j. implies (nat_lt j snap && is_managed_at ns j) (nat_lt j i))
     (λ j. (j < snap) × IsManagedAt ns j → j < i) (λ j. implied (and2 (less j snap) (managed_at ns j)) (less j i))))
-    (λ snap p. in_places ns snap p.0.entry p.0.there))
+    (λ snap p. in_places ns snap p.0.element p.0.there))
     (isn't (some_place ns (λ end. ends_cycle_at ns end k && is_later_known ns t i end) (λ end. EndsCycleAt ns end k × IsLaterKnown ns t i end)
-    (λ end. and2 (ends_at ns end k) (later_known ns t i end)) (λ end p. in_places ns end p.0.entry p.0.there))))
+    (λ end. and2 (ends_at ns end k) (later_known ns t i end)) (λ end p. in_places ns end p.0.element p.0.there))))
 
 -- unset
 pub unset : (ns : List Noted) (cells : List (Option ℕ)) (i : ℕ) (t : Thread) (k : ℕ) → Tells (may_be_unset ns cells i t k) (MayBeUnset ns cells i t k)
@@ -139,11 +138,11 @@ unset ns cells i t k = like
     (λ r. (λ q. r.unknown q.0 q.1.1.0 q.1.0 q.1.1.1 q.1.1.2 q.1.1.3, λ q. r.not_own q.0 q.1.0 q.1.1 q.1.2, λ q. r.target_unfreed q.0 q.2.0 q.1 q.2.1.0 q.2.1.1))
     (and3
     (isn't (some_place ns (λ set. sets_cell_at ns set k && is_later_known ns t i set) (λ set. SetsCellAt ns set k × IsLaterKnown ns t i set)
-    (λ set. and2 (sets_at ns set k) (later_known ns t i set)) (λ set p. in_places ns set p.0.entry p.0.there)))
+    (λ set. and2 (sets_at ns set k) (later_known ns t i set)) (λ set p. in_places ns set p.0.element p.0.there)))
     (isn't (some_place ns (λ set. sets_cell_at ns set k && nat_lt set i && is_callers_at ns set t) (λ set. SetsCellAt ns set k × (set < i) × IsCallersAt ns set t)
-    (λ set. and3 (sets_at ns set k) (less set i) (callers_at ns set t)) (λ set p. in_places ns set p.0.entry p.0.there)))
+    (λ set. and3 (sets_at ns set k) (less set i) (callers_at ns set t)) (λ set p. in_places ns set p.0.element p.0.there)))
     (isn't (that (slot cells k) (λ m. list_any (λ j. frees_object_at ns j m && nat_lt j i) (places ns)) (λ m. (j : ℕ) × (FreesObjectAt ns j m × (j < i)))
-    (λ m. some_place ns (λ j. frees_object_at ns j m && nat_lt j i) (λ j. FreesObjectAt ns j m × (j < i)) (λ j. and2 (frees_at ns j m) (less j i)) (λ j p. in_places ns j p.0.entry p.0.there)))))
+    (λ m. some_place ns (λ j. frees_object_at ns j m && nat_lt j i) (λ j. FreesObjectAt ns j m × (j < i)) (λ j. and2 (frees_at ns j m) (less j i)) (λ j p. in_places ns j p.0.element p.0.there)))))
 
 -- a read's reply
 read_reply : (ns : List Noted) (cells : List (Option ℕ)) (s : Managed) (i : ℕ) (t : Thread) (k : ℕ) (reply : Reply) → Tells (is_read_reply ns cells s i t k reply) (IsReadReply ns cells s i t k reply)

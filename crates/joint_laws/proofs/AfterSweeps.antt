@@ -3,7 +3,6 @@
 use Rattle.std.proofs.Common.{◌≡◌, ℕ, inl, inr, List, [], ◌∷◌, ◌++◌, Some, sym, ap, subst, ◌∙◌}
 use Rattle.std.specs.Prelude.{Contains}
 use Rattle.std.proofs.lemmas.Option.{same_Some}
-use Rattle.joint_machine.specs.Headline.{SweepsAt}
 use Rattle.joint_machine.specs.Heaps.{IsMade}
 use Rattle.joint_machine.specs.Linked.{Linkage, linkage_after}
 use Rattle.joint_machine.specs.Managed.{OpenCycle, Holds}
@@ -15,12 +14,9 @@ use Rattle.joint_laws.proofs.JointRuns.{Stands}
 use Rattle.joint_laws.proofs.JointSince.{peer-entry}
 use Rattle.joint_machine.proofs.Members.{Contains-decided}
 use Rattle.joint_laws.proofs.ManagedMoves.{GoesOn}
-use Rattle.joint_laws.proofs.MarkSteps.{IsSweptWatch, begin-more, made-front}
+use Rattle.joint_laws.proofs.MarkSteps.{IsSweptWatch}
 use Rattle.joint_laws.proofs.PeerHeaps.{heap-entry}
-use Rattle.joint_laws.proofs.Watching.{get-front}
-
-sweep-more : (past : List Moment) (m : Moment) (i number : ℕ) (freed : List ℕ) → SweepsAt past i number freed → SweepsAt (past ++ m ∷ []) i number freed
-sweep-more past m i number freed w = record { moment = w.moment; there = get-front past (m ∷ []) i w.moment w.there; event = w.event; span = w.span; reply = w.reply; frees = w.frees }
+use Rattle.joint_laws.proofs.Watching.{get-front, at-more, at-front}
 
 module _ (s : Linkage) (n : Noted) (w : Stands s) (v : Stands (linkage_after s n))
     (g : GoesOn s.managed.managed (linkage_after s n).managed.managed) (c : OpenCycle) (o : s.managed.managed.cycle ≡ Some c) where
@@ -68,14 +64,13 @@ module _ (s : Linkage) (n : Noted) (w : Stands s) (v : Stands (linkage_after s n
     sweep = k.sweep;
     marking = k.marking;
     swept = k.swept;
-    begins = begin-more past m k.begin k.marking k.begins;
-    sweeps = sweep-more past m k.sweep k.marking k.swept k.sweeps;
+    begins = at-more past (m ∷ []) k.begin k.begins;
+    sweeps = at-more past (m ∷ []) k.sweep k.sweeps;
     later_on = k.later_on;
     in_order = k.in_order;
     objects = λ x p cx r out. (
         let b = candidate-before x p cx r in
         peer-stays x p b r (k.objects x p cx b (λ i y from to e. out i y from to (get-front past (m ∷ []) i y e))));
-    peers = λ p made out. (
-        let q = k.peers p (made-front past m k.begin k.marking p k.begins made) (λ i y from to e. out i y from to (get-front past (m ∷ []) i y e)) in
-        record { moment = q.moment; there = get-front past (m ∷ []) k.sweep q.moment q.there; freed = q.freed });
+    peers = λ p made out. at-more past (m ∷ []) k.sweep
+        (k.peers p (at-front past (m ∷ []) k.begin k.begins made) (λ i y from to e. out i y from to (get-front past (m ∷ []) i y e)));
   }

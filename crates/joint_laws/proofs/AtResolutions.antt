@@ -5,19 +5,18 @@ use Rattle.std.specs.Prelude.{Contains}
 use Rattle.std.proofs.lemmas.Option.{same_Some, slice_get_within}
 use Rattle.joint_machine.specs.Control.{OpenSnap}
 use Rattle.joint_machine.specs.Cycles.{IsResolution, IsAnsweredAlive}
-use Rattle.joint_machine.specs.Headline.{DriverBeginsAt, SweepsAt, IsMadeBefore, SnapsAt, IsUnreachedThroughout, IsCompleteCycle}
-use Rattle.joint_machine.specs.Heaps.{IsMade}
+use Rattle.joint_machine.specs.Headline.{SnapsAt, IsUnreachedThroughout, IsCompleteCycle}
 use Rattle.joint_machine.specs.Joint.{object}
 use Rattle.joint_machine.specs.Linked.{Linkage}
 use Rattle.joint_machine.specs.Managed.{OpenCycle}
 use Rattle.joint_machine.specs.Run.{Moment}
 use Rattle.joint_laws.specs.LinkedInvariants.{IsRestored}
 use Rattle.joint_laws.proofs.DriverSteps.{row_of, stays-unfreed}
-use Rattle.joint_laws.proofs.Journeys.{IsBehindSweep, snaps-more}
+use Rattle.joint_laws.proofs.Journeys.{IsBehindSweep}
 use Rattle.joint_laws.proofs.JointRuns.{Stands}
 use Rattle.joint_machine.proofs.Members.{Contains-decided}
 use Rattle.joint_laws.proofs.MarkSteps.{IsSweptWatch}
-use Rattle.joint_laws.proofs.Watching.{get-front}
+use Rattle.joint_laws.proofs.Watching.{get-front, at-more, at-front}
 use Rattle.joint_machine.specs.Told.{Answer}
 
 module _ (s : Linkage) (w : Stands s) (past more : List Moment) (o : OpenSnap) (answers : List Answer) (d : IsRestored s.managed s.peer o answers) (b : IsBehindSweep past s o)
@@ -38,24 +37,6 @@ module _ (s : Linkage) (w : Stands s) (past more : List Moment) (o : OpenSnap) (
         (k.objects x row.0 cx row.1 (λ i y from to e. out i from to y (get-front past more i y e)))))
   ]
 
-  made-then : (q : ℕ) → IsMadeBefore (past ++ more) k.begin q → IsMadeBefore past k.begin q
-  made-then q u =
-      let same : u.moment ≡ k.begins.moment = same_Some u.moment k.begins.moment (sym u.there ∙ get-front past more k.begin k.begins.moment k.begins.there) in
-      record { moment = k.begins.moment; there = k.begins.there; made = subst (λ (z : Moment). IsMade z.before.graph.peers.heap q) same u.made }
-
-  begins_there : DriverBeginsAt (past ++ more) k.begin k.marking
-  begins_there = record { moment = k.begins.moment; there = get-front past more k.begin k.begins.moment k.begins.there; caller = k.begins.caller; event = k.begins.event; reply = k.begins.reply }
-
-  sweeps_there : SweepsAt (past ++ more) k.sweep k.marking k.swept
-  sweeps_there = record {
-    moment = k.sweeps.moment;
-    there = get-front past more k.sweep k.sweeps.moment k.sweeps.there;
-    event = k.sweeps.event;
-    span = k.sweeps.span;
-    reply = k.sweeps.reply;
-    frees = k.sweeps.frees;
-  }
-
   pub complete-cycle : IsCompleteCycle (past ++ more) (length past) o.cycle resolved
   complete-cycle = record {
     snap = b.snap;
@@ -65,14 +46,13 @@ module _ (s : Linkage) (w : Stands s) (past more : List Moment) (o : OpenSnap) (
     freed = b.freed;
     candidates = d.cycle.candidates;
     swept = k.swept;
-    snaps = snaps-more past more b.snap o.cycle b.freed d.cycle.candidates (subst (λ (z : OpenCycle). SnapsAt past b.snap o.cycle b.freed z.candidates) same_cycle b.snaps);
-    begins = begins_there;
-    sweeps = sweeps_there;
+    snaps = at-more past more b.snap (subst (λ (z : OpenCycle). SnapsAt past b.snap o.cycle b.freed z.candidates) same_cycle b.snaps);
+    begins = at-more past more k.begin k.begins;
+    sweeps = at-more past more k.sweep k.sweeps;
     begins_later = k.later_on;
     sweeps_later = k.in_order;
-    ends_later = slice_get_within past k.sweep k.sweeps.moment k.sweeps.there;
+    ends_later = slice_get_within past k.sweep k.sweeps.element k.sweeps.there;
     objects = candidate-resolved;
-    peers = λ q made out. (
-        let u = k.peers q (made-then q made) (λ i y from to e. out i from to y (get-front past more i y e)) in
-        record { moment = u.moment; there = get-front past more k.sweep u.moment u.there; freed = u.freed });
+    peers = λ q made out. at-more past more k.sweep
+        (k.peers q (at-front past more k.begin k.begins made) (λ i y from to e. out i from to y (get-front past more i y e)));
   }

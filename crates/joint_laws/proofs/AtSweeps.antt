@@ -14,9 +14,9 @@ use Rattle.joint_machine.specs.Told.{Noted}
 use Rattle.joint_laws.proofs.AfterSweeps.{candidate-before}
 use Rattle.joint_laws.proofs.JointRuns.{Stands, state_of, IsTraced}
 use Rattle.joint_laws.proofs.ManagedMoves.{GoesOn}
-use Rattle.joint_laws.proofs.MarkSteps.{IsSweptWatch, begin-more, made-front, reached-made, row-freed, peer-swept}
+use Rattle.joint_laws.proofs.MarkSteps.{IsSweptWatch, reached-made, row-freed, peer-swept}
 use Rattle.joint_laws.proofs.MarkWatching.{IsMarkWatched}
-use Rattle.joint_laws.proofs.Watching.{IsSeen, IsWatched, get-front, get-last}
+use Rattle.joint_laws.proofs.Watching.{IsSeen, IsWatched, get-front, get-last, at-more, at-front}
 
 -- what is reached at a moment was made by then
 made-at : (x : Moment) (p : ℕ) → IsTraced x → IsReached x.after (peer p) → IsMade x.after.graph.peers.heap p
@@ -55,17 +55,17 @@ module _ (s : Linkage) (n : Noted) (w : Stands s) (v : Stands (linkage_after s n
     sweep = length past;
     marking = mk.number;
     swept = freed;
-    begins = begin-more past m k.begin mk.number k.begins;
+    begins = at-more past (m ∷ []) k.begin k.begins;
     sweeps = sweeps;
     later_on = k.later_on;
-    in_order = slice_get_within past k.begin k.begins.moment k.begins.there;
+    in_order = slice_get_within past k.begin k.begins.element k.begins.there;
     objects = λ x p cx r out. subst (λ fs. Contains fs p) (sym grows) (row-freed s w past a c o watched mk k freed sw x p cx (candidate-before s n w v g c o x p cx r) (unseen-object x out));
     peers = λ p made out. (
-        let q = made-front past m k.begin mk.number p k.begins made in
+        let q = at-front past (m ∷ []) k.begin k.begins made in
         record {
-          moment = m;
+          element = m;
           there = get-last past m;
-          freed = subst (λ (z : Joint). Contains z.graph.peers.heap.freed p) (sym after)
+          is = subst (λ (z : Joint). Contains z.graph.peers.heap.freed p) (sym after)
               (subst (λ fs. Contains fs p) (sym grows) (peer-swept s w past a c o watched mk k freed sw p (made-now p q) q (unseen-peer p out)));
         });
   }

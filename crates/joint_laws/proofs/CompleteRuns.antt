@@ -86,12 +86,12 @@ module _ (past : List Moment) (s : Linkage) (w : Stands s) (n : Noted) (may : Ma
   complete-next more later i k freed l r = elim (cases_eq i (length past)) [
     | inl e ↦ (
         let there : slice_get (past ++ m ∷ more) i ≡ Some m = subst (λ z. slice_get (past ++ m ∷ more) z ≡ Some m) (sym e) (get-next past m more) in
-        let same : r.moment ≡ m = same_Some r.moment m (sym r.there ∙ there) in
-        let event = ap (λ (z : Moment). z.noted.entry.made.op) (sym same) ∙ r.event in
-        let told = ap (λ (z : Moment). z.noted.told) (sym same) ∙ r.frees in
+        let same : r.element ≡ m = same_Some r.element m (sym r.there ∙ there) in
+        let event = ap (λ (z : Moment). z.noted.entry.made.op) (sym same) ∙ r.is.0 in
+        let told = ap (λ (z : Moment). z.noted.told) (sym same) ∙ r.is.2 in
         subst (λ z. IsCompleteCycle (past ++ m ∷ more) z k freed) (sym e)
         (journey-resolves s w past n.entry.number n.entry.made.index n.entry.made.reply n.entry.made.cites
-        n.entry.made.caller n.entry.made.op n.told k r.alive freed (m ∷ more) may event told known.journey))
+        n.entry.made.caller n.entry.made.op n.told k r.is.1 freed (m ∷ more) may event told known.journey))
     | inr ne ↦ (
         let far : length longer ≤ i = (let q = length-append past (m ∷ []) in omega (arith, l, ne)) in
         subst (λ z. IsCompleteCycle z i k freed) (append-one past m more) (later i k freed far (subst (λ z. ResolvesAt z i k freed) (sym (append-one past m more)) r)))
@@ -103,7 +103,7 @@ complete-from [] past s w known may = record {
   same = refl;
   steps = tt;
   traced = λ m c. absurd (Contains-nil m c);
-  complete = λ i k freed l r. absurd (ended past i l r.moment r.there);
+  complete = λ i k freed l r. absurd (ended past i l r.element r.there);
 }
   where
     ended : (xs : List Moment) (i : ℕ) → length xs ≤ i → (m : Moment) → slice_get (xs ++ []) i ≡ Some m → ⊥

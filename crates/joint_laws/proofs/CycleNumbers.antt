@@ -2,11 +2,12 @@
 -- names a number that isn't greater than the history is long.
 use Rattle.std.proofs.Common.{◌≡◌, ℕ, zero, suc, ◌+◌, ◌≤◌, Bool, true, false, not, List, [], ◌∷◌, length, take, refl, ap, arith}
 use Rattle.std.proofs.lemmas.Option.{slice_get_within}
+use Rattle.joint_machine.specs.declared.events.Op.TheVariants as op
 use Rattle.joint_machine.specs.Linked.{Linkage, MayCome, opening_linkage, linkage_after}
 use Rattle.joint_machine.specs.Replaying.{AllMayCome, replayed}
 use Rattle.joint_machine.specs.Lines.{is_read}
 use Rattle.joint_machine.specs.Managed.{Managed}
-use Rattle.joint_machine.specs.Readers.{SnapsCycleAt, is_aside, is_set_aside}
+use Rattle.joint_machine.specs.Readers.{HasEventAt, is_aside, is_set_aside}
 use Rattle.joint_machine.specs.Told.{Noted}
 use Rattle.joint_laws.specs.ReadingLaws.{IsLawfulReading, without_aside}
 use Rattle.joint_laws.specs.States.{state_at}
@@ -41,14 +42,14 @@ no-more (n ∷ ns) = by (is_aside n) refl (no-more ns)
     by true e r = (let q = ap length (without-cons n ns true e) in omega (arith, q, r))
     by false e r = (let q = ap length (without-cons n ns false e) in omega (arith, q, r))
 
-pub snap-few : (noted : List Noted) → IsLawfulReading noted → (i k : ℕ) → SnapsCycleAt noted i k → k ≤ length noted
+pub snap-few : (noted : List Noted) → IsLawfulReading noted → (i k : ℕ) → HasEventAt noted i (op.Snap record { 0 = k }) → k ≤ length noted
 snap-few noted w i k x =
-    let n = x.entry in
-    let stands : is_aside n ≡ false = ap (λ o. and (is_read o) (is_set_aside n.entry.made.reply)) x.event in
+    let n = x.element in
+    let stands : is_aside n ≡ false = ap (λ o. and (is_read o) (is_set_aside n.entry.made.reply)) x.is in
     let place = destined (λ (z : Noted). not (is_aside z)) noted i n x.there (ap not stands) in
     let front = length (without_aside (take i noted)) in
     let may = reading_is_lawful noted w in
-    let number = snap-number (state_at (without_aside noted) front) n k (comes-at (without_aside noted) front n may place.0) x.event in
+    let number = snap-number (state_at (without_aside noted) front) n k (comes-at (without_aside noted) front n may place.0) x.is in
     let count = few (without_aside noted) opening_linkage front may BothInvariants-opening in
     let within = slice_get_within (without_aside noted) front n place.0 in
     let less = no-more noted in

@@ -121,9 +121,9 @@ resolved-after s n k m alive freed may w e f c = record {
 -- so it is in each later place
 pub after-resolve : (noted : List Noted) → AllMayCome opening_linkage noted → (i j k m : ℕ) → ResolveFrees noted i k m → i < j → IsAfter k m (state_at noted j)
 after-resolve noted may i j k m r l =
-    let first : IsAfter k m (state_at noted (suc i)) = subst (IsAfter k m) (sym (after-at noted i r.entry r.there))
-    (resolved-after (state_at noted i) r.entry k m r.alive r.freed (comes-at noted i r.entry may r.there)
-    (everywhere Of BothInvariants-opening BothInvariants-entry noted may i) r.event r.told r.frees) in
+    let first : IsAfter k m (state_at noted (suc i)) = subst (IsAfter k m) (sym (after-at noted i r.element r.there))
+    (resolved-after (state_at noted i) r.element k m r.is.1 r.is.2 (comes-at noted i r.element may r.there)
+    (everywhere Of BothInvariants-opening BothInvariants-entry noted may i) r.is.0 r.is.3 r.is.4) in
     subst (λ p. IsAfter k m (state_at noted p)) (omega (arith, l)) (from_state (IsAfter k m) (λ s n w a. after-next k m s n w a) noted may (suc i) (j - suc i) first)
 
 -- the reply of a read that is an entry of the managed side
@@ -199,8 +199,8 @@ weak-read s n p k freed may r = by n.entry.made.caller (subst (λ o. IsEvent n.e
 
 pub freed-since : (noted : List Noted) → AllMayCome opening_linkage noted → (i j p : ℕ) → SweepFrees noted i p → i < j → Contains (state_at noted j).peer.peers.heap.freed p
 freed-since noted may i j p w l =
-    let first : Contains (state_at noted (suc i)).peer.peers.heap.freed p = subst (λ (z : Linkage). Contains z.peer.peers.heap.freed p) (sym (after-at noted i w.entry w.there))
-    (swept-frees (state_at noted i) w.entry p w.freed (comes-at noted i w.entry may w.there) w.event w.told w.frees) in
+    let first : Contains (state_at noted (suc i)).peer.peers.heap.freed p = subst (λ (z : Linkage). Contains z.peer.peers.heap.freed p) (sym (after-at noted i w.element w.there))
+    (swept-frees (state_at noted i) w.element p w.is.1 (comes-at noted i w.element may w.there) w.is.0 w.is.2 w.is.3) in
     let same : suc i + (j - suc i) ≡ j = omega (arith, l) in
     subst (λ x. Contains (state_at noted x).peer.peers.heap.freed p) same (grows-Contains _ _ p (peers-grown noted may (suc i) (j - suc i)) first)
 
@@ -232,7 +232,7 @@ none-stands noted at step past i (suc more) out e =
     let before-it = none-stands noted at step past i more (λ x k l m. out x k l (omega (arith, m))) e in
     ap (λ p. (at p).peer.refs) (omega arith) ∙ (elim (cases_lt (suc i + more) (length noted)) [
       | inl l ↦ (let n = numbered-made noted (suc (suc i + more)) (omega arith) (omega (arith, l)) in
-          step (suc i + more) n.0 n.1 (λ k q. out (suc i + more) k.0 (omega arith) (omega arith) (record { entry = n.0; there = n.1; event = q })) before-it)
+          step (suc i + more) n.0 n.1 (λ k q. out (suc i + more) k.0 (omega arith) (omega arith) (record { element = n.0; there = n.1; is = q })) before-it)
       | inr l ↦ past (suc i + more) l ∙ before-it
     ])
 
@@ -243,4 +243,4 @@ none_is_mirrored noted may i j k c l out =
     ∙ none-stands noted (state_at noted) (λ p n e o f. ap (λ (z : Linkage). z.peer.refs) (after-at noted p n e) ∙ unmirrored-refs (state_at noted p) n f o)
     (λ p q. ap (λ ns. (replayed opening_linkage ns).peer.refs) (take_all (suc p) noted (omega (arith, q)) ∙ sym (take_all p noted q)))
     i (j - suc i) (subst (NoMirrorBetween noted i) (sym same) out)
-    (ap (λ (z : Linkage). z.peer.refs) (after-at noted i c.entry c.there) ∙ cleared-refs (state_at noted i) c.entry (record { 0 = k }) c.event)
+    (ap (λ (z : Linkage). z.peer.refs) (after-at noted i c.element c.there) ∙ cleared-refs (state_at noted i) c.element (record { 0 = k }) c.is)

@@ -8,9 +8,10 @@ use Rattle.joint_machine.specs.PeerReplay.{Marking}
 use Rattle.joint_machine.specs.Run.{Moment}
 use Rattle.joint_machine.specs.Told.{Noted}
 use Rattle.joint_laws.proofs.AfterSweeps.{swept-rests, swept-moves}
-use Rattle.joint_laws.proofs.Journeys.{IsOnTheWay, IsBehindSweep, goes-open, snaps-more}
+use Rattle.joint_laws.proofs.Journeys.{IsOnTheWay, IsBehindSweep, goes-open}
 use Rattle.joint_laws.proofs.JointRuns.{Stands}
 use Rattle.joint_laws.proofs.MarkWatching.{IsMarkWatched}
+use Rattle.joint_laws.proofs.Watching.{at-more}
 
 -- in the own marking
 pub record IsUnderWay (past : List Moment) (s : Linkage) (w : Stands s) (o : OpenSnap) : Type 0 where
@@ -40,7 +41,7 @@ behind-next s n may w v past o m e q k =
       freed = k.freed;
       cycle = k.cycle;
       open_now = g.cycle ∙ k.open_now;
-      snaps = snaps-more past (m ∷ []) k.snap o.cycle k.freed k.cycle.candidates k.snaps;
+      snaps = at-more past (m ∷ []) k.snap k.snaps;
       swept = swept-moves s n w v g k.cycle k.open_now past k.snap m k.swept;
     }
 

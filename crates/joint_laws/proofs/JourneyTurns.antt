@@ -20,12 +20,12 @@ use Rattle.joint_machine.specs.Told.{Noted, snap_of, sweep_of}
 use Rattle.joint_laws.specs.LinkedInvariants.{HasStrength, IsMirrored, ForCandidates, IsInMarking, IsRestoring}
 use Rattle.joint_laws.proofs.AtSnapshots.{watched-snapshot}
 use Rattle.joint_laws.proofs.AtSweeps.{swept-watch}
-use Rattle.joint_laws.proofs.Journeys.{IsOnTheWay, IsBehindSweep, goes-open, way-next, snaps-more}
+use Rattle.joint_laws.proofs.Journeys.{IsOnTheWay, IsBehindSweep, goes-open, way-next}
 use Rattle.joint_laws.proofs.JourneyStands.{IsUnderWay}
 use Rattle.joint_laws.proofs.JointRuns.{Stands, state_of, IsTraced}
 use Rattle.joint_laws.proofs.ManagedMoves.{GoesOn}
 use Rattle.joint_laws.proofs.MarkSteps.{watch-begin}
-use Rattle.joint_laws.proofs.Watching.{get-last}
+use Rattle.joint_laws.proofs.Watching.{get-last, at-more}
 
 -- the moment of an entry
 abbrev pub moment_of : (s : Linkage) (n : Noted) → Stands s → Stands (linkage_after s n) → Moment
@@ -48,7 +48,7 @@ module _ (s : Linkage) (n : Noted) (w : Stands s) (v : Stands (linkage_after s n
     freed = freed;
     cycle = record { number = s.managed.managed.cycles + 1; candidates = candidates; dead = dead };
     open_now = ap (λ z. z.cycle) is;
-    snaps = subst (λ z. SnapsAt longer (length past) z freed candidates) (sym same) (record { moment = m; there = get-last past m; event = event; dead = dead; frees = told });
+    snaps = subst (λ z. SnapsAt longer (length past) z freed candidates) (sym same) (record { element = m; there = get-last past m; is = (event, dead, told) });
     watched = watched-snapshot s.managed.managed k freed candidates dead p (state_of t v) is past m refl;
   }
 
@@ -71,8 +71,8 @@ module _ (s : Linkage) (n : Noted) (w : Stands s) (v : Stands (linkage_after s n
 
     made_then : (p : ℕ) → IsMadeBefore longer (length past) p → IsMade t.peer.peers.heap p
     made_then p q =
-        let same : q.moment ≡ m = same_Some q.moment m (sym q.there ∙ get-last past m) in
-        subst (λ (z : PeerReplay). IsMade z.peers.heap p) (sym is) (subst (λ (z : Moment). IsMade z.before.graph.peers.heap p) same q.made)
+        let same : q.element ≡ m = same_Some q.element m (sym q.there ∙ get-last past m) in
+        subst (λ (z : PeerReplay). IsMade z.peers.heap p) (sym is) (subst (λ (z : Moment). IsMade z.before.graph.peers.heap p) same q.is)
 
     pub begin-turn : n.entry.made.caller ≡ C → n.entry.made.op ≡ op.Begin → n.entry.made.reply ≡ says.Mark record { 0 = s.peer.markings + 1 }
         → length t.peer.peers.heap.vars ≡ 72 → length t.peer.peers.heap.statics ≡ 16 → IsUnderWay longer t v o
@@ -100,7 +100,7 @@ module _ (s : Linkage) (n : Noted) (w : Stands s) (v : Stands (linkage_after s n
             blackened = 0;
           }) (sym is) refl;
           watched = watch-begin t v longer k.snap k.cycle open_there way.watched mirror all_weak (s.peer.markings + 1) (length past) C
-              (record { moment = m; there = get-last past m; caller = caller; event = event; reply = reply }) k.watched.started made_then;
+              (record { element = m; there = get-last past m; is = (caller, event, reply) }) k.watched.started made_then;
           vars = vars;
           statics = statics;
         }
@@ -111,12 +111,12 @@ module _ (s : Linkage) (n : Noted) (w : Stands s) (v : Stands (linkage_after s n
       → n.entry.made.op ≡ op.Sweep → n.entry.made.reply ≡ says.Swept record { 0 = k.own.number } span → n.told ≡ sweep_of freed → IsBehindSweep longer t o
   sweep-turn may traced to k freed span sw grows event reply told =
       let g = goes-open s n may w k.way.cycle to.cycle k.way.open_now to.opened.cycle in
-      let there : SweepsAt longer (length past) k.own.number freed = record { moment = m; there = get-last past m; event = event; span = span; reply = reply; frees = told } in
+      let there : SweepsAt longer (length past) k.own.number freed = record { element = m; there = get-last past m; is = (event, span, reply, told) } in
       record {
         snap = k.way.snap;
         freed = k.way.freed;
         cycle = k.way.cycle;
         open_now = g.cycle ∙ k.way.open_now;
-        snaps = snaps-more past (m ∷ []) k.way.snap o.cycle k.way.freed k.way.cycle.candidates k.way.snaps;
+        snaps = at-more past (m ∷ []) k.way.snap k.way.snaps;
         swept = swept-watch s n w v g past traced k.way.snap k.way.cycle k.way.open_now k.way.watched k.own k.open_mark k.watched freed sw m refl grows there;
       }

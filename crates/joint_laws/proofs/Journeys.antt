@@ -27,7 +27,7 @@ use Rattle.joint_laws.proofs.ManagedEntries.{ManagedStep-entry}
 use Rattle.joint_laws.proofs.ManagedMoves.{GoesOn}
 use Rattle.joint_laws.proofs.ManagedSteps.{ManagedStep, going_on, snapping, resolving, abandoning}
 use Rattle.joint_laws.proofs.JointRuns.{Stands, state_of}
-use Rattle.joint_laws.proofs.Watching.{IsWatched, get-front, watched-next}
+use Rattle.joint_laws.proofs.Watching.{IsWatched, at-more, watched-next}
 use Rattle.joint_laws.proofs.MarkSteps.{IsSweptWatch}
 use Rattle.joint_laws.proofs.Restores.{restored-any}
 
@@ -121,9 +121,6 @@ pub record IsBehindSweep (past : List Moment) (s : Linkage) (o : OpenSnap) : Typ
   pub snaps : SnapsAt past snap o.cycle freed cycle.candidates
   pub swept : IsSweptWatch past snap cycle s
 
-pub snaps-more : (past more : List Moment) (a k : ℕ) (freed candidates : List ℕ) → SnapsAt past a k freed candidates → SnapsAt (past ++ more) a k freed candidates
-snaps-more past more a k freed candidates w = record { moment = w.moment; there = get-front past more a w.moment w.there; event = w.event; dead = w.dead; frees = w.frees }
-
 unfoldable pub way-next : (s : Linkage) (n : Noted) (may : MayCome s n) (w : Stands s) (v : Stands (linkage_after s n)) (past : List Moment) (o : OpenSnap) (m : Moment)
     → m.after ≡ state_of (linkage_after s n) v → (e : OpenCycle) → (linkage_after s n).managed.managed.cycle ≡ Some e
     → IsOnTheWay past s w o → IsOnTheWay (past ++ m ∷ []) (linkage_after s n) v o
@@ -134,7 +131,7 @@ way-next s n may w v past o m after e q k =
       freed = k.freed;
       cycle = k.cycle;
       open_now = g.cycle ∙ k.open_now;
-      snaps = snaps-more past (m ∷ []) k.snap o.cycle k.freed k.cycle.candidates k.snaps;
+      snaps = at-more past (m ∷ []) k.snap k.snaps;
       watched = watched-next s n may w v g past k.snap k.cycle.candidates k.watched m after;
     }
 

@@ -21,7 +21,7 @@ use Rattle.joint_laws.proofs.Sparing.{later}
 use Rattle.joint_laws.proofs.PeerHeaps.{heap-entry}
 use Rattle.joint_laws.proofs.JointRuns.{Stands, state_of}
 use Rattle.joint_laws.proofs.JointSince.{peer-entry}
-use Rattle.joint_laws.proofs.Watching.{IsSeen, WasSeen, IsWatched, last-seen, seen-more, was-more, seen-cases, watched-next, get-front}
+use Rattle.joint_laws.proofs.Watching.{IsSeen, WasSeen, IsWatched, last-seen, seen-more, was-more, seen-cases, watched-next, at-more, at-front}
 use Rattle.joint_laws.proofs.MarkWatching.{IsMarkWatched, marked-seen, reference-seen, strong_peer-seen, slot-seen, row-joined}
 
 -- at the begin
@@ -52,14 +52,6 @@ watch-begin s w past a c o watched m all number b by begins ab made = record {
   ];
   fields = λ p l n. refl;
 }
-
-pub begin-more : (past : List Moment) (m : Moment) (b number : ℕ) → DriverBeginsAt past b number → DriverBeginsAt (past ++ m ∷ []) b number
-begin-more past m b number w = record { moment = w.moment; there = get-front past (m ∷ []) b w.moment w.there; caller = w.caller; event = w.event; reply = w.reply }
-
-pub made-front : (past : List Moment) (m : Moment) (b number p : ℕ) → DriverBeginsAt past b number → IsMadeBefore (past ++ m ∷ []) b p → IsMadeBefore past b p
-made-front past m b number p w q =
-    let same : q.moment ≡ w.moment = same_Some q.moment w.moment (sym q.there ∙ get-front past (m ∷ []) b w.moment w.there) in
-    record { moment = w.moment; there = w.there; made = subst (λ (z : Moment). IsMade z.before.graph.peers.heap p) same q.made }
 
 -- at a later entry
 module _ (s : Linkage) (n : Noted) (may : MayCome s n) (w : Stands s) (v : Stands (linkage_after s n))
@@ -119,9 +111,9 @@ module _ (s : Linkage) (n : Noted) (may : MayCome s n) (w : Stands s) (v : Stand
   pub watch-next : IsMarkWatched longer a c t (later mk brought black)
   watch-next = record {
     begin = k.begin;
-    begins = begin-more past m k.begin mk.number k.begins;
+    begins = at-more past (m ∷ []) k.begin k.begins;
     later_on = k.later_on;
-    made_then = λ p q. k.made_then p (made-front past m k.begin mk.number p k.begins q);
+    made_then = λ p q. k.made_then p (at-front past (m ∷ []) k.begin k.begins q);
     old = λ p q l. k.old p q ((heap-entry s n).back p (q.0, omega (arith, q.1, (w.kept.peer.marking mk e0).made)) l);
     rows = rows_next;
     refs = k.refs ∙ sym refs;

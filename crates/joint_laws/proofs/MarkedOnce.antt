@@ -18,11 +18,11 @@ use Rattle.joint_machine.specs.Linked.{Linkage, MayCome, SideLawful, ManagedLawf
 use Rattle.joint_machine.specs.Replaying.{AllMayCome, machine_entries}
 use Rattle.joint_machine.specs.Managed.{Managed, OpenCycle}
 use Rattle.joint_machine.specs.Peers.{Issued}
+use Rattle.joint_machine.specs.Readers.{HasEventAt}
 use Rattle.joint_machine.specs.Run.{Moment, IsRun, is_joint}
 use Rattle.joint_machine.specs.Told.{Told, contraction_of, snap_of, resolution_of, Noted}
 use Rattle.joint_laws.specs.LinkedInvariants.{DriverInvariant}
 use Rattle.joint_laws.specs.OwnMarkingLaws.{DriverBegins, HasOneBegin, OwnMarkingIsOne, RunMarksOnce}
-use Rattle.joint_laws.specs.EventsAt.{HasEventAt}
 use Rattle.joint_laws.specs.States.{state_at}
 use Rattle.joint_laws.proofs.Everywhere.{everywhere, from_state}
 use Rattle.joint_laws.proofs.LinkedEntries.{Of, BothInvariants-entry, BothInvariants-opening}
@@ -351,13 +351,13 @@ module _ (noted : List Noted) (may : AllMayCome opening_linkage noted) (i k : �
 -- at the resolution
 resolves-behind : (noted : List Noted) (may : AllMayCome opening_linkage noted) (k e : ℕ) (w : HasEventAt noted e (op.Resolve record { 0 = k })) → IsBehind k (state_at noted e).control.stand
 resolves-behind noted may k e w =
-    let m = comes-at noted e w.entry may w.there in
-    by w.entry.entry.made.caller (subst (λ o. IsEvent w.entry.entry.made.caller o) w.event m.event)
+    let m = comes-at noted e w.element may w.there in
+    by w.element.entry.made.caller (subst (λ o. IsEvent w.element.entry.made.caller o) w.is m.event)
     (subst (λ o. CallerAllows (state_at noted e).control (state_at noted e).managed.managed
-    (state_at noted e).peer.peers.issued w.entry.entry.made.caller w.entry.entry.made.index o w.entry.entry.made.reply w.entry.entry.made.cites w.entry.told) w.event m.order)
+    (state_at noted e).peer.peers.issued w.element.entry.made.caller w.element.entry.made.index o w.element.entry.made.reply w.element.entry.made.cites w.element.told) w.is m.order)
   where
     stands : (st : Stand) (told : Told) → DriverAllows st (state_at noted e).managed.managed (state_at noted e).peer.peers.issued
-        (op.Resolve record { 0 = k }) w.entry.entry.made.reply w.entry.entry.made.cites told → IsBehind k st
+        (op.Resolve record { 0 = k }) w.element.entry.made.reply w.element.entry.made.cites told → IsBehind k st
     stands (restored o answers clear) (resolution_of alive freed) a = a.0
     stands (restored o answers clear) told a = absurd a
     stands idle told a = absurd a
@@ -368,11 +368,11 @@ resolves-behind noted may k e w =
     stands (restoring o answers) told a = absurd a
 
     by : (t : Thread) → IsEvent t (op.Resolve record { 0 = k })
-        → CallerAllows (state_at noted e).control (state_at noted e).managed.managed (state_at noted e).peer.peers.issued t w.entry.entry.made.index
-        (op.Resolve record { 0 = k }) w.entry.entry.made.reply w.entry.entry.made.cites w.entry.told → IsBehind k (state_at noted e).control.stand
+        → CallerAllows (state_at noted e).control (state_at noted e).managed.managed (state_at noted e).peer.peers.issued t w.element.entry.made.index
+        (op.Resolve record { 0 = k }) w.element.entry.made.reply w.element.entry.made.cites w.element.told → IsBehind k (state_at noted e).control.stand
     by (M u) f a = absurd f
     by (P u) f a = absurd f
-    by C f a = stands (state_at noted e).control.stand w.entry.told a
+    by C f a = stands (state_at noted e).control.stand w.element.told a
 
 not-elsewhere : (k : ℕ) (st : Stand) → IsBehind k st → IsElsewhere k st → ⊥
 not-elsewhere k (marked o) e f = f e
@@ -403,7 +403,7 @@ snap-first noted may i e k sn rs = elim (cases_lt i e) [ inl l ↦ l | inr l ↦
     at_resolve = behind-latest (state_at noted e) k (kept e) (state_at noted e).control.stand (kept e).driver (resolves-behind noted may k e rs)
 
     at_snap : k ≡ cycles_of (state_at noted i) + 1
-    at_snap = snap-number (state_at noted i) sn.entry k (comes-at noted i sn.entry may sn.there) sn.event
+    at_snap = snap-number (state_at noted i) sn.element k (comes-at noted i sn.element may sn.there) sn.is
 
     grows : (more : ℕ) → Of (state_at noted (e + more)) × (k ≤ cycles_of (state_at noted (e + more)))
     grows more = from_state (λ s. Of s × (k ≤ cycles_of s)) (λ s n m w. (BothInvariants-entry s n m w.0, (let g = cycles-grow s n m w.0 in let h = w.1 in omega arith))) noted may e more
@@ -422,7 +422,7 @@ own_marking_is_one noted may i e k sn rs =
     let there = ap (λ p. slice_get noted p) same ∙ rs.there in
     record {
       in_order = l;
-      one = by (subst (Since noted may i k) same (since noted may i k (e - suc i) rs.entry there (first noted may i k sn.entry sn.there sn.event)));
+      one = by (subst (Since noted may i k) same (since noted may i k (e - suc i) rs.element there (first noted may i k sn.element sn.there sn.is)));
     }
   where
     by : Since noted may i k e → HasOneBegin noted i e
@@ -447,14 +447,14 @@ module _ (noted : List Noted) (run : List Moment) (r : IsRun (machine_entries no
 
 pub run_marks_once : RunMarksOnce
 run_marks_once noted run may r a e k freed candidates resolved sn rs b c i j bi cj ab be ac ce =
-    let oa = from noted run r a sn.moment sn.there in
-    let oe = from noted run r e rs.moment rs.there in
-    let ob = from noted run r b bi.moment bi.there in
-    let oc = from noted run r c cj.moment cj.there in
-    let w = own_marking_is_one noted may oa.place oe.place k (record { entry = sn.moment.noted; there = oa.there; event = sn.event })
-    (record { entry = rs.moment.noted; there = oe.there; event = rs.event }) in
+    let oa = from noted run r a sn.element sn.there in
+    let oe = from noted run r e rs.element rs.there in
+    let ob = from noted run r b bi.element bi.there in
+    let oc = from noted run r c cj.element cj.there in
+    let w = own_marking_is_one noted may oa.place oe.place k (record { element = sn.element.noted; there = oa.there; is = sn.is.0 })
+    (record { element = rs.element.noted; there = oe.there; is = rs.is.0 }) in
     let one : ob.place ≡ w.one.begin = w.one.alone ob.place (in-order noted run r a b _ _ oa ob ab) (in-order noted run r b e _ _ ob oe be)
-    (record { entry = bi.moment.noted; there = ob.there; caller = bi.caller; event = bi.event }) in
+    (record { entry = bi.element.noted; there = ob.there; caller = bi.is.0; event = bi.is.1 }) in
     let other : oc.place ≡ w.one.begin = w.one.alone oc.place (in-order noted run r a c _ _ oa oc ac)
-    (in-order noted run r c e _ _ oc oe ce) (record { entry = cj.moment.noted; there = oc.there; caller = cj.caller; event = cj.event }) in
+    (in-order noted run r c e _ _ oc oe ce) (record { entry = cj.element.noted; there = oc.there; caller = cj.is.0; event = cj.is.1 }) in
     same-place noted run r b c _ _ ob oc (one ∙ sym other)

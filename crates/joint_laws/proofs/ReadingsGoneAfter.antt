@@ -85,14 +85,14 @@ module _ (noted : List Noted) (w : IsLawfulReading noted) (j : ℕ) where
 
   resolve-stands : (i k m : ℕ) → i < j → ResolveFrees noted i k m → IsAfter k m end
   resolve-stands i k m l r =
-      let x = stands i r.entry l r.there (aside-by r.entry (op.Resolve record { 0 = k }) r.event refl) in
-      after-resolve standing may x.0 (length standing) k m (record { entry = r.entry; there = x.1; event = r.event; alive = r.alive; freed = r.freed; told = r.told; frees = r.frees }) x.2
+      let x = stands i r.element l r.there (aside-by r.element (op.Resolve record { 0 = k }) r.is.0 refl) in
+      after-resolve standing may x.0 (length standing) k m (record { element = r.element; there = x.1; is = r.is }) x.2
 
   sweep-stands : (i p : ℕ) → i < j → SweepFrees noted i p → Contains (reading_at noted j).peer.peers.heap.freed p
   sweep-stands i p l r =
-      let x = stands i r.entry l r.there (aside-by r.entry op.Sweep r.event refl) in
+      let x = stands i r.element l r.there (aside-by r.element op.Sweep r.is.0 refl) in
       subst (λ (z : PeerReplay). Contains z.peers.heap.freed p) peer
-      (freed-since standing may x.0 (length standing) p (record { entry = r.entry; there = x.1; event = r.event; freed = r.freed; told = r.told; frees = r.frees }) x.2)
+      (freed-since standing may x.0 (length standing) p (record { element = r.element; there = x.1; is = r.is }) x.2)
 
   kept : PeerInvariant (reading_at noted j).peer
   kept = subst PeerInvariant peer (everywhere Of BothInvariants-opening BothInvariants-entry standing may (length standing)).peer
@@ -144,5 +144,5 @@ none_is_mirrored_reading noted w i j k c l out =
     ∙ none-stands noted (reading_at noted) (λ p n e o f. ap (λ (z : Linkage). z.peer.refs) (reading-after noted opening_linkage p n e) ∙ unmirrored-reading (reading_at noted p) n f o)
     (λ p q. ap (λ ns. (replayed_reading opening_linkage ns).peer.refs) (take_all (suc p) noted (omega (arith, q)) ∙ sym (take_all p noted q)))
     i (j - suc i) (subst (NoMirrorBetween noted i) (sym same) out)
-    (ap (λ (z : Linkage). z.peer.refs) (reading-after noted opening_linkage i c.entry c.there ∙ entry-by (reading_at noted i) c.entry false (ap is_read c.event))
-    ∙ cleared-refs (reading_at noted i) c.entry (record { 0 = k }) c.event)
+    (ap (λ (z : Linkage). z.peer.refs) (reading-after noted opening_linkage i c.element c.there ∙ entry-by (reading_at noted i) c.element false (ap is_read c.is))
+    ∙ cleared-refs (reading_at noted i) c.element (record { 0 = k }) c.is)

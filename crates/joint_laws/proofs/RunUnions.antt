@@ -177,8 +177,8 @@ run_union_is_closed noted run may r a i k m l h there on x y w e = closed noted 
 
 pub run_union_follows_marking : RunUnionFollowsMarking
 run_union_follows_marking noted run may r i mk b a k l h on p q w e =
-    let n = b.event.entry in
-    let at = steps_have_moments noted run may r i n b.event.there (ap is_joint b.event.event) in
+    let n = b.event.element in
+    let at = steps_have_moments noted run may r i n b.event.there (ap is_joint b.event.is) in
     let walk : Reaches (JointEdge at.moment.after.graph) (peer p) (peer q) = subst (λ (g : Graph). Reaches (JointEdge g) (peer p) (peer q)) (sym at.after) (marking-walk noted may i mk b p q e) in
     Reaches-keeps (JointEdge at.moment.after.graph) (λ z. IsReachedInRun run a k z)
     (λ x y f v. closed noted run may r a (length (machine_entries (take i noted))) k at.moment l h at.there on x y v f) (peer p) (peer q) walk w

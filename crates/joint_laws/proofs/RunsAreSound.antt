@@ -40,9 +40,9 @@ snap-event m k freed candidates dead st e f =
 
 pub snapshots_are_sound : SnapshotsAreSound
 snapshots_are_sound entries run r i k m freed candidates s c x e w =
-    let same : s.moment ≡ x = same_Some s.moment x (sym s.there ∙ e) in
-    let t = snap-event s.moment k freed candidates s.dead (step-at run opening i s.moment r.steps s.there) s.event s.frees in
-    snapshot-unreached s.moment.before k freed candidates s.dead t.snapshot m c (subst (λ (z : Moment). IsReached z.before (object m)) (sym same) w)
+    let same : s.element ≡ x = same_Some s.element x (sym s.there ∙ e) in
+    let t = snap-event s.element k freed candidates s.is.1 (step-at run opening i s.element r.steps s.there) s.is.0 s.is.2 in
+    snapshot-unreached s.element.before k freed candidates s.is.1 t.snapshot m c (subst (λ (z : Moment). IsReached z.before (object m)) (sym same) w)
 
 -- a moment begins where the one before it ended
 pub next-before : (run : List Moment) (j : Joint) (i : ℕ) (p m : Moment) → IsRunFrom j run → slice_get run i ≡ Some p → slice_get run (suc i) ≡ Some m → m.before ≡ p.after
@@ -146,7 +146,7 @@ origin run r (suc i) m e y f =
         record {
           begin = i;
           earlier = omega arith;
-          begins = record { moment = p; there = there; event = o; reply = reply ∙ ap (λ (x : JointMarking). says.Mark record { 0 = x.number }) same };
+          begins = record { element = p; there = there; is = (o, reply ∙ ap (λ (x : JointMarking). says.Mark record { 0 = x.number }) same) };
           graph = λ x e. ap (λ (v : Moment). v.after.graph) (same_Some x p (sym e ∙ there)) ∙ (w ∙ ap (λ (v : JointMarking). v.begun) same);
         }
 
@@ -166,25 +166,25 @@ ends-of b a (Some y) t reply freed j span e w q = elim w [
 ]
 
 pub sweep-ends : (run : List Moment) → IsRunFrom opening run → (i j : ℕ) (freed : List ℕ) (s : SweepsAt run i j freed) → (y : JointMarking)
-    × (s.moment.before.marking ≡ Some y) × (y.number ≡ j) × EndsMarking s.moment.before y s.moment.noted.entry.made.caller freed s.moment.noted.entry.made.reply s.moment.after
+    × (s.element.before.marking ≡ Some y) × (y.number ≡ j) × EndsMarking s.element.before y s.element.noted.entry.made.caller freed s.element.noted.entry.made.reply s.element.after
 sweep-ends run r i j freed s =
-    let st = step-at run opening i s.moment r s.there in
-    let m = s.moment in
+    let st = step-at run opening i s.element r s.there in
+    let m = s.element in
     let w : JointSweep m.before m.before.marking m.noted.entry.made.caller m.noted.entry.made.reply (sweep_of freed) m.after =
-    subst (λ z. JointEvent m.before m.noted.entry.made.caller op.Sweep m.noted.entry.made.reply z m.after) s.frees
-    (subst (λ z. JointEvent m.before m.noted.entry.made.caller z m.noted.entry.made.reply m.noted.told m.after) s.event st.step) in
-    ends-of m.before m.after m.before.marking m.noted.entry.made.caller m.noted.entry.made.reply freed j s.span refl w s.reply
+    subst (λ z. JointEvent m.before m.noted.entry.made.caller op.Sweep m.noted.entry.made.reply z m.after) s.is.3
+    (subst (λ z. JointEvent m.before m.noted.entry.made.caller z m.noted.entry.made.reply m.noted.told m.after) s.is.0 st.step) in
+    ends-of m.before m.after m.before.marking m.noted.entry.made.caller m.noted.entry.made.reply freed j s.is.1 refl w s.is.2
 
 pub sweeps_are_sound : SweepsAreSound
 sweeps_are_sound entries run r i j p freed s c =
     let w = sweep-ends run r.steps i j freed s in
-    let o = origin run r.steps i s.moment s.there w.0 w.1 in (
+    let o = origin run r.steps i s.element s.there w.0 w.1 in (
       o.begin,
       o.earlier,
       subst (λ z. BeginsAt run o.begin z) w.2 o.begins,
       record {
         at_begin = λ m e v. (All-contains (λ x. IsStored w.0 x) freed p w.3.stored c).unreached (subst (λ g. IsReachedIn g (peer p)) (o.graph m e) v);
-        before_sweep = λ m e v. All-contains (λ x. IsReached s.moment.before (peer x) → ⊥) freed p w.3.unreached c
-            (subst (λ (z : Moment). IsReached z.before (peer p)) (same_Some m s.moment (sym e ∙ s.there)) v);
+        before_sweep = λ m e v. All-contains (λ x. IsReached s.element.before (peer x) → ⊥) freed p w.3.unreached c
+            (subst (λ (z : Moment). IsReached z.before (peer p)) (same_Some m s.element (sym e ∙ s.there)) v);
       },
     )

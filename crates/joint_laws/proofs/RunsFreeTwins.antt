@@ -97,7 +97,7 @@ module _ (run : List Moment) (steps : IsRunFrom opening run) (traced : (m : Mome
         sweep = i;
         freed = freed;
         begins = o.begins;
-        sweeps = record { moment = m; there = there; event = e; span = record { first = length m.before.graph.peers.heap.freed; count = length freed }; reply = w.replies; frees = told };
+        sweeps = record { element = m; there = there; is = (e, record { first = length m.before.graph.peers.heap.freed; count = length freed }, w.replies, told) };
         in_order = o.earlier;
         in_time = omega arith;
         frees = c;

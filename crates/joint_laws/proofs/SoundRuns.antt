@@ -39,11 +39,11 @@ module _ (run : List Moment) (steps : IsRunFrom opening run) (traced : (m : Mome
       subst (λ z. TwinsSwept run (suc i) z) (sym next) (twins-next run steps traced i p.0 p.1 t (twins i p.0 p.1))
 
   -- a resolution of the run
-  resolve-event : (i k : ℕ) (freed : List ℕ) (w : ResolvesAt run i k freed) → JointResolve w.moment.before k freed w.moment.noted.entry.made.reply w.moment.after
+  resolve-event : (i k : ℕ) (freed : List ℕ) (w : ResolvesAt run i k freed) → JointResolve w.element.before k freed w.element.noted.entry.made.reply w.element.after
   resolve-event i k freed w =
-      let m = w.moment in
-      subst (λ z. JointEvent m.before m.noted.entry.made.caller (op.Resolve record { 0 = k }) m.noted.entry.made.reply z m.after) w.frees
-      (subst (λ z. JointEvent m.before m.noted.entry.made.caller z m.noted.entry.made.reply m.noted.told m.after) w.event (step-at run opening i m steps w.there).step)
+      let m = w.element in
+      subst (λ z. JointEvent m.before m.noted.entry.made.caller (op.Resolve record { 0 = k }) m.noted.entry.made.reply z m.after) w.is.2
+      (subst (λ z. JointEvent m.before m.noted.entry.made.caller z m.noted.entry.made.reply m.noted.told m.after) w.is.0 (step-at run opening i m steps w.there).step)
 
   kept_before : (i : ℕ) (m : Moment) → slice_get run i ≡ Some m → ManagedInvariant m.before.graph.managed
   kept_before i m e = let t = trace i m e in subst (λ (z : Joint). ManagedInvariant z.graph.managed) (sym t.before) t.stands.kept.managed.managed
@@ -51,8 +51,8 @@ module _ (run : List Moment) (steps : IsRunFrom opening run) (traced : (m : Mome
   resolved : (i k m : ℕ) (freed : List ℕ) → ResolvesAt run i k freed → Contains freed m → IsUnreachedBefore run i (object m)
   resolved i k m freed w c x e v =
       let r = resolve-event i k freed w in
-      resolution-unreached w.moment.before r.cycle freed (kept_before i w.moment w.there) r.open_cycle.0 r.resolution m c
-      (subst (λ (z : Moment). IsReached z.before (object m)) (same_Some x w.moment (sym e ∙ w.there)) v)
+      resolution-unreached w.element.before r.cycle freed (kept_before i w.element w.there) r.open_cycle.0 r.resolution m c
+      (subst (λ (z : Moment). IsReached z.before (object m)) (same_Some x w.element (sym e ∙ w.there)) v)
 
   -- a candidate that is freed has a freed peer
   freed-peer : (j : Joint) (c : OpenCycle) (m h p : ℕ) (freed : List ℕ) → ((x : ℕ) → Contains freed x → (((y : ℕ) × IsKept j c y × Reaches (ManagedEdge j.graph.managed) y x) → ⊥))
@@ -65,24 +65,26 @@ module _ (run : List Moment) (steps : IsRunFrom opening run) (traced : (m : Mome
   candidates : (i k m : ℕ) (freed : List ℕ) → ResolvesAt run i k freed → Contains freed m → IsCandidateBefore run i m → IsFreedWithPeer run i m
   candidates i k m freed w f cand =
       let r = resolve-event i k freed w in
-      let t = trace i w.moment w.there in
-      let kept = kept_before i w.moment w.there in
-      let moments : cand.moment ≡ w.moment = same_Some cand.moment w.moment (sym cand.there ∙ w.there) in
-      let cycles : cand.cycle ≡ r.cycle = same_Some cand.cycle r.cycle (sym cand.open_cycle ∙ (ap (λ (z : Moment). z.before.graph.managed.cycle) moments ∙ r.open_cycle.0)) in
-      let cm : Contains r.cycle.candidates m = subst (λ (z : OpenCycle). Contains z.candidates m) cycles cand.candidate in
-      let b : IsBridge w.moment.before.graph.managed m = (((kept.dead r.cycle r.open_cycle.0).candidates m).0 cm).1 in
+      let t = trace i w.element w.there in
+      let kept = kept_before i w.element w.there in
+      let moments : cand.element ≡ w.element = same_Some cand.element w.element (sym cand.there ∙ w.there) in
+      let cycles : cand.is.0 ≡ r.cycle = same_Some cand.is.0 r.cycle (sym cand.is.1 ∙ (ap (λ (z : Moment). z.before.graph.managed.cycle) moments ∙ r.open_cycle.0)) in
+      let cm : Contains r.cycle.candidates m = subst (λ (z : OpenCycle). Contains z.candidates m) cycles cand.is.2 in
+      let b : IsBridge w.element.before.graph.managed m = (((kept.dead r.cycle r.open_cycle.0).candidates m).0 cm).1 in
       let here : Holds t.state.managed.managed m b.0 = subst (λ (z : Joint). Holds z.graph.managed m b.0) t.before b.1 in
       let i0 = t.stands.kept.owners.held_ones m b.0 here in
-      let leads : peer_of w.moment.before.graph.peers.issued b.0 ≡ Some i0.0.peer = subst
+      let leads : peer_of w.element.before.graph.peers.issued b.0 ≡ Some i0.0.peer = subst
       (λ (z : Joint). peer_of z.graph.peers.issued b.0 ≡ Some i0.0.peer) (sym t.before) (peer_of-issued t.state.peer.peers.issued b.0 i0.0 i0.1) in
       record {
-        moment = w.moment;
+        element = w.element;
         there = w.there;
-        handle = b.0;
-        holds = b.1;
-        peer = i0.0.peer;
-        leads = leads;
-        swept = twins i w.moment w.there m b.0 i0.0.peer b.1 leads (freed-peer w.moment.before r.cycle m b.0 i0.0.peer freed (λ x c. ((r.resolution.frees x).0 c).1) f cm b.1 leads);
+        is = (
+          b.0,
+          b.1,
+          i0.0.peer,
+          leads,
+          twins i w.element w.there m b.0 i0.0.peer b.1 leads (freed-peer w.element.before r.cycle m b.0 i0.0.peer freed (λ x c. ((r.resolution.frees x).0 c).1) f cm b.1 leads),
+        );
       }
 
   pub is-sound : (entries : List Noted) → IsRun entries run → IsSoundRun run

@@ -254,10 +254,10 @@ pub marking-walk : (noted : List Noted) → AllMayCome opening_linkage noted →
 marking-walk noted may i mk b p q e =
     let s = state_at noted (suc i) in
     let kept : Of s = everywhere Of BothInvariants-opening BothInvariants-entry noted may (suc i) in
-    let n = b.event.entry in
+    let n = b.event.element in
     let same = after-at noted i n b.event.there in
     let begin : KeepsBegin s.peer mk = subst (λ (z : Linkage). KeepsBegin z.peer mk) (sym same)
-    (begin-keeps (state_at noted i) n.entry.made n.told mk b.event.event b.closed (ap (λ (z : Linkage). z.peer.marking) (sym same) ∙ b.opened)) in
+    (begin-keeps (state_at noted i) n.entry.made n.told mk b.event.is b.closed (ap (λ (z : Linkage). z.peer.marking) (sym same) ∙ b.opened)) in
     elim e [
       | inl f ↦ Reaches-edge (JointEdge (graph_in noted (suc i))) (peer p) (peer q) (subst (λ z. HasField z p q) begin.heap f)
       | inr f ↦ edge-joint s kept _ p q (subst (λ z. HasReference s.peer.peers.heap z p q) begin.refs (subst (λ z. HasReference z mk.refs p q) begin.heap f))

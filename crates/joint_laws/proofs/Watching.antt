@@ -1,13 +1,14 @@
 -- What was reached at some state since the snapshot of the open cycle. It isn't impossible for a row to be in this set
 -- where it is not impossible that it was reached; so nothing has to be decided. The set is closed under the joint edges
 -- of the present state: a new edge leads to what is reached now or was just before.
-use Rattle.std.proofs.Common.{◌≡◌, ℕ, zero, suc, ◌<◌, ◌≤◌, ◌⊎◌, inl, inr, List, [], ◌∷◌, ◌++◌, length, Some, refl, sym, ap, subst, arith, length-append}
+use Rattle.std.proofs.Common.{◌≡◌, ℕ, zero, suc, ◌<◌, ◌≤◌, ◌⊎◌, inl, inr, List, [], ◌∷◌, ◌++◌, length, Some, refl, sym, ap, subst, ◌∙◌, arith, length-append}
 use Rattle.std.specs.Prelude.{Contains, slice_get}
 use Rattle.std.proofs.lemmas.Option.{same_Some}
 use Rattle.joint_machine.specs.Heaps.{IsMade, IsLive}
 use Rattle.joint_machine.specs.Joint.{Joint, Row, object, JointEdge, IsJointRoot, IsReached}
 use Rattle.joint_machine.specs.Linked.{Linkage, MayCome, linkage_after}
 use Rattle.joint_machine.specs.Managed.{Holds}
+use Rattle.joint_machine.specs.Places.{At}
 use Rattle.joint_machine.specs.Run.{Moment}
 use Rattle.joint_machine.specs.Told.{Noted}
 use Rattle.joint_machine.proofs.WalkLemmas.{Reached-start, Reached-then}
@@ -58,6 +59,15 @@ push-cases [] m zero x e = inr (refl, same_Some m x e)
 push-cases [] m (suc i) x e = absurd (none_some x e)
 push-cases (y ∷ past) m zero x e = inl e
 push-cases (y ∷ past) m (suc i) x e = elim (push-cases past m i x e) [ inl w ↦ inl w | inr w ↦ inr (ap suc w.0, w.1) ]
+
+-- what stands at a place still does in a longer list, and what is so there in that was so before
+pub at-more : {Is : Moment → Type 0} (past more : List Moment) (i : ℕ) → At past i Is → At (past ++ more) i Is
+at-more past more i w = record { element = w.element; there = get-front past more i w.element w.there; is = w.is }
+
+pub at-front : {Was Is : Moment → Type 0} (past more : List Moment) (i : ℕ) → At past i Was → At (past ++ more) i Is → At past i Is
+at-front {Is = Is} past more i w q =
+    let same : q.element ≡ w.element = same_Some q.element w.element (sym q.there ∙ get-front past more i w.element w.there) in
+    record { element = w.element; there = w.there; is = subst Is same q.is }
 
 pub seen-more : (past : List Moment) (m : Moment) (a : ℕ) (x : Row) → IsSeen past a x → IsSeen (past ++ m ∷ []) a x
 seen-more past m a x w = record { place = w.place; from = w.from; moment = w.moment; there = get-front past (m ∷ []) w.place w.moment w.there; reached = w.reached }

@@ -1,7 +1,7 @@
 -- What holds in a history once something was freed or cleared: reads of it answer gone, and no mirrored reference
 -- stands.
 -- Believed: the clauses of the program's top call rest on all that stands here.
-use Rattle.std.specs.Prelude.{◌≡◌, ℕ, ◌<◌, ◌⊎◌, List, take, Contains, Some, slice_get}
+use Rattle.std.specs.Prelude.{◌≡◌, ℕ, ◌<◌, ◌⊎◌, List, take, Contains, Some}
 use Rattle.joint_machine.specs.declared.names.Thread.{Thread}
 use Rattle.joint_machine.specs.declared.names.Var.{Var}
 use Rattle.joint_machine.specs.declared.names.GName.{GName}
@@ -11,32 +11,23 @@ use Rattle.joint_machine.specs.Linked.{Linkage, opening_linkage}
 use Rattle.joint_machine.specs.Managed.{Managed, OpenCycle}
 use Rattle.joint_machine.specs.PeerReplay.{PeerReplay}
 use Rattle.joint_machine.specs.Peers.{peer_of}
-use Rattle.joint_machine.specs.Readers.{ReadsCell, replayed_reading}
+use Rattle.joint_machine.specs.Places.{At}
+use Rattle.joint_machine.specs.Readers.{HasEventAt, ReadsCell, replayed_reading}
 use Rattle.joint_machine.specs.Run.{thread_number}
 use Rattle.joint_machine.specs.Told.{Noted, sweep_of, resolution_of, Answer}
-use Rattle.joint_laws.specs.EventsAt.{HasEventAt}
 use Rattle.joint_machine.specs.declared.lines.Act.TheVariants as act
 use Rattle.joint_machine.specs.declared.events.Op.TheVariants as op
 use Rattle.joint_machine.specs.declared.events.Reply.TheVariants as says
 
 -- the entry in that place resolves cycle k and frees the object
-pub record ResolveFrees (noted : List Noted) (i k m : ℕ) : Type 0 where
-  pub entry : Noted
-  pub there : slice_get noted i ≡ Some entry
-  pub event : entry.entry.made.op ≡ op.Resolve record { 0 = k }
-  pub alive : List Answer
-  pub freed : List ℕ
-  pub told : entry.told ≡ resolution_of alive freed
-  pub frees : Contains freed m
+abbrev pub ResolveFrees : List Noted → ℕ → ℕ → ℕ → Type 0
+ResolveFrees noted i k m = At noted i (λ n. (n.entry.made.op ≡ op.Resolve record { 0 = k })
+    × (alive : List Answer) × (freed : List ℕ) × (n.told ≡ resolution_of alive freed) × Contains freed m)
 
 -- the entry in that place is a sweep that frees the peer
-pub record SweepFrees (noted : List Noted) (i p : ℕ) : Type 0 where
-  pub entry : Noted
-  pub there : slice_get noted i ≡ Some entry
-  pub event : entry.entry.made.op ≡ op.Sweep
-  pub freed : List ℕ
-  pub told : entry.told ≡ sweep_of freed
-  pub frees : Contains freed p
+abbrev pub SweepFrees : List Noted → ℕ → ℕ → Type 0
+SweepFrees noted i p = At noted i (λ n. (n.entry.made.op ≡ op.Sweep)
+    × (freed : List ℕ) × (n.told ≡ sweep_of freed) × Contains freed p)
 
 -- the entry reads a cell whose target is the object
 pub record ReadsObject (s : Managed) (n : Noted) (m : ℕ) : Type 0 where

@@ -4,9 +4,8 @@ use Rattle.joint_machine.specs.declared.events.Op.TheVariants as op
 use Rattle.joint_machine.specs.declared.events.Reply.TheVariants as says
 use Rattle.joint_machine.specs.Linked.{opening_linkage}
 use Rattle.joint_machine.specs.Replaying.{AllMayCome}
-use Rattle.joint_machine.specs.Readers.{is_aside}
+use Rattle.joint_machine.specs.Readers.{HasEventAt, is_aside}
 use Rattle.joint_machine.specs.Told.{Noted}
-use Rattle.joint_laws.specs.EventsAt.{HasEventAt}
 use Rattle.joint_laws.specs.ReadingLaws.{IsLawfulReading}
 use Rattle.joint_laws.specs.States.{state_at}
 use Rattle.joint_laws.specs.Afterwards.{IsGoneAfter, NoMirrorBetween, ReadsObject, ReadsPeer, ResolveFrees, SweepFrees}

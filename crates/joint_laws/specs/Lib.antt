@@ -11,7 +11,6 @@ pub mod RunLaws
 pub mod ReadingLaws
 pub mod Readings
 pub mod OwnMarkingLaws
-pub mod EventsAt
 pub mod AfterwardsLaws
 pub mod Afterwards
 pub mod UnionLaws

@@ -6,10 +6,10 @@ use Rattle.joint_machine.specs.declared.events.Op.TheVariants as op
 use Rattle.joint_machine.specs.declared.events.Reply.TheVariants as says
 use Rattle.joint_machine.specs.Headline.{SnapsAt, ResolvesAt, DriverBeginsAt}
 use Rattle.joint_machine.specs.Linked.{opening_linkage}
+use Rattle.joint_machine.specs.Readers.{HasEventAt}
 use Rattle.joint_machine.specs.Replaying.{AllMayCome, machine_entries}
 use Rattle.joint_machine.specs.Run.{Moment, IsRun}
 use Rattle.joint_machine.specs.Told.{Noted}
-use Rattle.joint_laws.specs.EventsAt.{HasEventAt}
 
 -- the driver begins a marking in that place
 pub record DriverBegins (noted : List Noted) (i : ℕ) : Type 0 where

@@ -8,9 +8,9 @@ use Rattle.joint_machine.specs.Joint.{Graph, Row, peer, JointEdge, IsReachedIn}
 use Rattle.joint_machine.specs.Linked.{opening_linkage}
 use Rattle.joint_machine.specs.Replaying.{AllMayCome}
 use Rattle.joint_machine.specs.PeerReplay.{Marking, MarkingEdge}
+use Rattle.joint_machine.specs.Readers.{HasEventAt}
 use Rattle.joint_machine.specs.Told.{Noted}
 use Rattle.joint_laws.specs.LinkedLaws.{IsOpenUntil}
-use Rattle.joint_laws.specs.EventsAt.{HasEventAt}
 use Rattle.joint_laws.specs.States.{state_at}
 
 -- the joint graph at the state after so many entries

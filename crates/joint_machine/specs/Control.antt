@@ -147,17 +147,15 @@ DriverAllows idle _ _ (op.Snap _) _ cites _ = cites ≡ None
 DriverAllows (snapped o) _ _ (op.Contract k) _ cites _ = (o.cycle ≡ k.0) × (cites ≡ None)
 DriverAllows (contracted o comps _ xrefs) s issued (op.Mirror k) _ cites (references_of refs) = (o.cycle ≡ k.0)
     × (cites ≡ Some o.snap) × (refs ≡ carried_edges s issued (mirror_edges comps xrefs))
-DriverAllows (weakening o count _ swept) s _ (op.Weaken h) _ cites _ = (cites ≡ Some o.snap)
-    × (swept ≡ false) × IsCandidateHandle s count h.0
-DriverAllows (weakening _ count _ swept) s _ op.Sweep _ cites _ = (count ≡ length (candidates_of s))
+DriverAllows (weakening o n _ swept) s _ (op.Weaken h) _ cites _ = (cites ≡ Some o.snap)
+    × (swept ≡ false) × IsCandidateHandle s n h.0
+DriverAllows (weakening _ n _ swept) s _ op.Sweep _ cites _ = (n ≡ length (candidates_of s))
     × (swept ≡ false) × (cites ≡ None)
-DriverAllows (weakening _ count _ _) s _ op.Begin (says.Mark _) cites _ = (count ≡ length (candidates_of s))
-    × (cites ≡ None)
+DriverAllows (weakening _ n _ _) s _ op.Begin (says.Mark _) cites _ = (n ≡ length (candidates_of s)) × (cites ≡ None)
 DriverAllows (marked _) _ _ op.Sweep _ cites _ = cites ≡ None
-DriverAllows (restoring _ answers) s _ (op.Restore h) _ cites _ = (cites ≡ None)
-    × IsCandidateHandle s (length answers) h.0
-DriverAllows (restoring o answers) s _ (op.Clear k) _ cites _ = (cites ≡ None)
-    × (length answers ≡ length (candidates_of s)) × (o.cycle ≡ k.0)
+DriverAllows (restoring _ said) s _ (op.Restore h) _ cites _ = (cites ≡ None) × IsCandidateHandle s (length said) h.0
+DriverAllows (restoring o said) s _ (op.Clear k) _ cites _ = (cites ≡ None)
+    × (length said ≡ length (candidates_of s)) × (o.cycle ≡ k.0)
 DriverAllows (restored o answers clear) _ _ (op.Resolve k) _ cites (resolution_of said _) = (o.cycle ≡ k.0)
     × (cites ≡ Some clear) × (said ≡ answers)
 DriverAllows (snapped o) _ _ (op.Abandon k) _ cites _ = (o.cycle ≡ k.0) × (cites ≡ None)

@@ -10,48 +10,34 @@ use Rattle.joint_machine.specs.Heaps.{IsMade}
 use Rattle.joint_machine.specs.Joint.{Row, object, peer, IsReached}
 use Rattle.joint_machine.specs.Managed.{OpenCycle, Holds}
 use Rattle.joint_machine.specs.Peers.{peer_of}
+use Rattle.joint_machine.specs.Places.{At}
 use Rattle.joint_machine.specs.Run.{Moment}
 use Rattle.joint_machine.specs.Told.{snap_of, sweep_of, resolution_of, Answer}
 
 -- the entry at place i of the run begins marking j
-pub record BeginsAt (run : List Moment) (i j : ℕ) : Type 0 where
-  pub moment : Moment
-  pub there : slice_get run i ≡ Some moment
-  pub event : moment.noted.entry.made.op ≡ op.Begin
-  pub reply : moment.noted.entry.made.reply ≡ says.Mark record { 0 = j }
+abbrev pub BeginsAt : List Moment → ℕ → ℕ → Type 0
+BeginsAt run i j = At run i (λ m. (m.noted.entry.made.op ≡ op.Begin)
+    × (m.noted.entry.made.reply ≡ says.Mark record { 0 = j }))
 
 -- the driver begins marking j there
-pub record DriverBeginsAt (run : List Moment) (i j : ℕ) : Type 0 where
-  pub moment : Moment
-  pub there : slice_get run i ≡ Some moment
-  pub caller : moment.noted.entry.made.caller ≡ C
-  pub event : moment.noted.entry.made.op ≡ op.Begin
-  pub reply : moment.noted.entry.made.reply ≡ says.Mark record { 0 = j }
+abbrev pub DriverBeginsAt : List Moment → ℕ → ℕ → Type 0
+DriverBeginsAt run i j = At run i (λ m. (m.noted.entry.made.caller ≡ C) × (m.noted.entry.made.op ≡ op.Begin)
+    × (m.noted.entry.made.reply ≡ says.Mark record { 0 = j }))
 
 -- the entry at place i sweeps marking j and frees these peers
-pub record SweepsAt (run : List Moment) (i j : ℕ) (freed : List ℕ) : Type 0 where
-  pub moment : Moment
-  pub there : slice_get run i ≡ Some moment
-  pub event : moment.noted.entry.made.op ≡ op.Sweep
-  pub span : Span
-  pub reply : moment.noted.entry.made.reply ≡ says.Swept record { 0 = j } span
-  pub frees : moment.noted.told ≡ sweep_of freed
+abbrev pub SweepsAt : List Moment → ℕ → ℕ → List ℕ → Type 0
+SweepsAt run i j freed = At run i (λ m. (m.noted.entry.made.op ≡ op.Sweep) × (span : Span)
+    × (m.noted.entry.made.reply ≡ says.Swept record { 0 = j } span) × (m.noted.told ≡ sweep_of freed))
 
 -- the entry at place i is the snapshot of cycle k, with what it frees and its candidates
-pub record SnapsAt (run : List Moment) (i k : ℕ) (freed candidates : List ℕ) : Type 0 where
-  pub moment : Moment
-  pub there : slice_get run i ≡ Some moment
-  pub event : moment.noted.entry.made.op ≡ op.Snap record { 0 = k }
-  pub dead : List ℕ
-  pub frees : moment.noted.told ≡ snap_of freed candidates dead
+abbrev pub SnapsAt : List Moment → ℕ → ℕ → List ℕ → List ℕ → Type 0
+SnapsAt run i k freed candidates = At run i (λ m. (m.noted.entry.made.op ≡ op.Snap record { 0 = k })
+    × (dead : List ℕ) × (m.noted.told ≡ snap_of freed candidates dead))
 
 -- the entry at place i resolves cycle k and frees these rows
-pub record ResolvesAt (run : List Moment) (i k : ℕ) (freed : List ℕ) : Type 0 where
-  pub moment : Moment
-  pub there : slice_get run i ≡ Some moment
-  pub event : moment.noted.entry.made.op ≡ op.Resolve record { 0 = k }
-  pub alive : List Answer
-  pub frees : moment.noted.told ≡ resolution_of alive freed
+abbrev pub ResolvesAt : List Moment → ℕ → ℕ → List ℕ → Type 0
+ResolvesAt run i k freed = At run i (λ m. (m.noted.entry.made.op ≡ op.Resolve record { 0 = k })
+    × (alive : List Answer) × (m.noted.told ≡ resolution_of alive freed))
 
 -- the row isn't reached in the state at the entry in place i, that is after it
 abbrev pub IsUnreachedAt : List Moment → ℕ → Row → Type 0
@@ -87,22 +73,14 @@ pub record IsSweptFor (run : List Moment) (limit p : ℕ) (x : Row) : Type 0 whe
 
 -- the candidate held a handle, just before place i, whose peer was freed by a sweep at whose begin, and just before
 -- which, neither of them was reached
-pub record IsFreedWithPeer (run : List Moment) (i m : ℕ) : Type 0 where
-  pub moment : Moment
-  pub there : slice_get run i ≡ Some moment
-  pub handle : ℕ
-  pub holds : Holds moment.before.graph.managed m handle
-  pub peer : ℕ
-  pub leads : peer_of moment.before.graph.peers.issued handle ≡ Some peer
-  pub swept : IsSweptFor run i peer (object m)
+abbrev pub IsFreedWithPeer : List Moment → ℕ → ℕ → Type 0
+IsFreedWithPeer run i m = At run i (λ x. (handle : ℕ) × Holds x.before.graph.managed m handle
+    × (p : ℕ) × (peer_of x.before.graph.peers.issued handle ≡ Some p) × IsSweptFor run i p (object m))
 
 -- the row is a candidate of the cycle that is open just before place i
-pub record IsCandidateBefore (run : List Moment) (i m : ℕ) : Type 0 where
-  pub moment : Moment
-  pub there : slice_get run i ≡ Some moment
-  pub cycle : OpenCycle
-  pub open_cycle : moment.before.graph.managed.cycle ≡ Some cycle
-  pub candidate : Contains cycle.candidates m
+abbrev pub IsCandidateBefore : List Moment → ℕ → ℕ → Type 0
+IsCandidateBefore run i m = At run i (λ x. (cycle : OpenCycle)
+    × (x.before.graph.managed.cycle ≡ Some cycle) × Contains cycle.candidates m)
 
 -- sound: nothing is freed too early
 pub record IsSoundRun (run : List Moment) : Type 0 where
@@ -120,16 +98,12 @@ pub record IsSoundRun (run : List Moment) : Type 0 where
       → Contains freed m → IsUnreachedBefore run i (object m)
 
 -- the peer was made by the state just before place i
-pub record IsMadeBefore (run : List Moment) (i p : ℕ) : Type 0 where
-  pub moment : Moment
-  pub there : slice_get run i ≡ Some moment
-  pub made : IsMade moment.before.graph.peers.heap p
+abbrev pub IsMadeBefore : List Moment → ℕ → ℕ → Type 0
+IsMadeBefore run i p = At run i (λ m. IsMade m.before.graph.peers.heap p)
 
 -- the peer is freed in the state at place i
-pub record IsPeerFreedAt (run : List Moment) (i p : ℕ) : Type 0 where
-  pub moment : Moment
-  pub there : slice_get run i ≡ Some moment
-  pub freed : Contains moment.after.graph.peers.heap.freed p
+abbrev pub IsPeerFreedAt : List Moment → ℕ → ℕ → Type 0
+IsPeerFreedAt run i p = At run i (λ m. Contains m.after.graph.peers.heap.freed p)
 
 -- the peer isn't reached in the state at any entry from one place to another at which it exists
 abbrev pub IsPeerUnreachedThroughout : List Moment → ℕ → ℕ → ℕ → Type 0

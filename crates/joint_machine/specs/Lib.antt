@@ -1,4 +1,5 @@
 pub mod Numbers
+pub mod Places
 pub mod Walks
 pub mod Components
 pub mod Lines

@@ -3,7 +3,7 @@
 -- header: while bridge processing is in progress, the reading of a weak link to a bridge object waits.)
 -- Believed: the clauses of the program's top call rest on all that stands here.
 use Rattle.std.specs.Prelude.{◌≡◌, ℕ, ◌<◌, ◌≤◌, ◌^◌, ◌⊎◌, Bool, true, false, not, ◌&&◌, if◌then◌else◌, List, [], ◌∷◌}
-use Rattle.std.specs.Prelude.{Contains, Option, Some, None, slice_get, slice_set}
+use Rattle.std.specs.Prelude.{Contains, Option, Some, None, slice_set}
 use Rattle.joint_machine.specs.declared.names.Thread.{Thread}
 use Rattle.joint_machine.specs.declared.lines.Act.TheVariants as act
 use Rattle.joint_machine.specs.declared.events.Op.{Op}
@@ -15,6 +15,7 @@ use Rattle.joint_machine.specs.Heaps.{slot}
 use Rattle.joint_machine.specs.Lines.{IsEvent, is_peer_event, is_read}
 use Rattle.joint_machine.specs.Linked.{Linkage, linkage_after, MayCome}
 use Rattle.joint_machine.specs.Managed.{Managed, read_cell}
+use Rattle.joint_machine.specs.Places.{At}
 use Rattle.joint_machine.specs.Run.{thread_number}
 use Rattle.joint_machine.specs.Told.{Told, nothing, snap_of, resolution_of, Noted}
 
@@ -39,39 +40,26 @@ is_set_aside (says.Pending c) = true
 is_set_aside says.Unset = true
 is_set_aside _ = false
 
--- the entry at that place, which in a history is its number
-abbrev pub IsEntryAt : List Noted → ℕ → Noted → Type 0
-IsEntryAt ns i n = slice_get ns i ≡ Some n
+-- the entry at that place, which in a history is its number, has the event
+abbrev pub HasEventAt : List Noted → ℕ → Op → Type 0
+HasEventAt ns i o = At ns i (λ n. n.entry.made.op ≡ o)
 
 -- a managed entry with that number
-pub record IsManagedAt (ns : List Noted) (i : ℕ) : Type 0 where
-  pub entry : Noted
-  pub there : IsEntryAt ns i entry
-  pub managed : is_managed_entry entry ≡ true
+abbrev pub IsManagedAt : List Noted → ℕ → Type 0
+IsManagedAt ns i = At ns i (λ n. is_managed_entry n ≡ true)
 
--- the entry with number i snaps, or ends, cycle k
-pub record SnapsCycleAt (ns : List Noted) (i k : ℕ) : Type 0 where
-  pub entry : Noted
-  pub there : IsEntryAt ns i entry
-  pub event : entry.entry.made.op ≡ op.Snap record { 0 = k }
-
-pub record EndsCycleAt (ns : List Noted) (i k : ℕ) : Type 0 where
-  pub entry : Noted
-  pub there : IsEntryAt ns i entry
-  pub event : (entry.entry.made.op ≡ op.Resolve record { 0 = k }) ⊎ (entry.entry.made.op ≡ op.Abandon record { 0 = k })
+-- the entry with number i ends cycle k
+abbrev pub EndsCycleAt : List Noted → ℕ → ℕ → Type 0
+EndsCycleAt ns i k = At ns i (λ n. (n.entry.made.op ≡ op.Resolve record { 0 = k })
+    ⊎ (n.entry.made.op ≡ op.Abandon record { 0 = k }))
 
 -- the entry with number i set cell k
-pub record SetsCellAt (ns : List Noted) (i k : ℕ) : Type 0 where
-  pub entry : Noted
-  pub there : IsEntryAt ns i entry
-  pub event : SetsCell entry.entry.made.op k
-  pub set : entry.entry.made.reply ≡ says.Ok
+abbrev pub SetsCellAt : List Noted → ℕ → ℕ → Type 0
+SetsCellAt ns i k = At ns i (λ n. SetsCell n.entry.made.op k × (n.entry.made.reply ≡ says.Ok))
 
 -- the entry with number i was made by the caller
-pub record IsCallersAt (ns : List Noted) (i : ℕ) (t : Thread) : Type 0 where
-  pub entry : Noted
-  pub there : IsEntryAt ns i entry
-  pub caller : entry.entry.made.caller ≡ t
+abbrev pub IsCallersAt : List Noted → ℕ → Thread → Type 0
+IsCallersAt ns i t = At ns i (λ n. n.entry.made.caller ≡ t)
 
 -- the caller's last entry before number i stands at or after number j: some entry of the caller stands between
 abbrev pub HasKnownFrom : List Noted → Thread → ℕ → ℕ → Type 0
@@ -82,7 +70,7 @@ HasKnownFrom ns t i j = (x : ℕ) × (j ≤ x) × (x < i) × IsCallersAt ns x t
 -- at or before the caller's last entry
 pub record MayBePending (ns : List Noted) (i : ℕ) (t : Thread) (k : ℕ) : Type 0 where
   pub snap : ℕ
-  pub snaps : SnapsCycleAt ns snap k
+  pub snaps : HasEventAt ns snap (op.Snap record { 0 = k })
   pub early : (j : ℕ) → j < snap → IsManagedAt ns j → j < i
   pub unknown : (end j : ℕ) → EndsCycleAt ns end k → end < j → IsManagedAt ns j → HasKnownFrom ns t i j → ⊥
 
@@ -92,10 +80,8 @@ FreesObject (snap_of freed candidates dead) m = Contains freed m
 FreesObject (resolution_of alive freed) m = Contains freed m
 FreesObject _ m = ⊥
 
-pub record FreesObjectAt (ns : List Noted) (i m : ℕ) : Type 0 where
-  pub entry : Noted
-  pub there : IsEntryAt ns i entry
-  pub frees : FreesObject entry.told m
+abbrev pub FreesObjectAt : List Noted → ℕ → ℕ → Type 0
+FreesObjectAt ns i m = At ns i (λ n. FreesObject n.told m)
 
 -- an entry with number i, by thread t, that answers `unset` for cell k, which has that target or none at the end: no
 -- managed entry later than the `weak` that set the cell stands at or before the caller's last entry; no `weak` of its

@@ -213,8 +213,8 @@ freer whole n j m x s = ⊎_elim (λ (e : x.item.role ≡ 0). e) (λ other. absu
 none_from : (whole : List Item) (ns : List Noted) → Noticed whole ns → (t : Thread) (i j : ℕ) → IsBelow j (of_line (caller_line t) (first_of i whole)) → HasKnownFrom ns t i j → ⊥
 none_from whole ns g t i j below h =
     let c = h.3 in
-    let x = entry_at whole ns g h.0 c.entry c.there in
-    let mine : is_in (caller_line t) x.item ≡ true = caller_in (caller_line t) x.item (ap caller_line (sym c.caller ∙ ap (λ (y : Entry). y.made.caller) x.note.entry)) in
+    let x = entry_at whole ns g h.0 c.element c.there in
+    let mine : is_in (caller_line t) x.item ≡ true = caller_in (caller_line t) x.item (ap caller_line (sym c.is ∙ ap (λ (y : Entry). y.made.caller) x.note.entry)) in
     let less = stands_below j (of_line (caller_line t) (first_of i whole)) x.item.kept below
     (item_stands (caller_line t) (first_of i whole) h.0 x.item (in_first i whole h.0 x.item h.2 x.there) mine) in
     let number = x.number in let from = h.1 in omega arith
@@ -228,49 +228,50 @@ pending_right whole ns g i t k snapped unknown =
     record {
       snap = s.0;
       snaps = record {
-        entry = n.0;
+        element = n.0;
         there = n.1;
-        event = ap (λ (y : Entry). y.made.op) n.2.entry ∙ (ap (λ (y : KeptEntry). y.entry.made.op) s.4 ∙ deed_opens snapped.0.entry.made.op k snapped.2);
+        is = ap (λ (y : Entry). y.made.op) n.2.entry ∙ (ap (λ (y : KeptEntry). y.entry.made.op) s.4 ∙ deed_opens snapped.0.entry.made.op k snapped.2);
       };
-      early = λ j l m. let x = entry_at whole ns g j m.entry m.there in let at_j = x.number in
-          let less = snapped.3 x.item.kept (item_stands 0 whole j x.item x.there (role_in 0 x.item (sym (managed_role whole m.entry j x m.managed)))) (omega arith) in omega arith;
+      early = λ j l m. let x = entry_at whole ns g j m.element m.there in let at_j = x.number in
+          let less = snapped.3 x.item.kept (item_stands 0 whole j x.item x.there (role_in 0 x.item (sym (managed_role whole m.element j x m.is)))) (omega arith) in omega arith;
       unknown = λ end j e l m h.
-          let x = entry_at whole ns g j m.entry m.there in
-          let z = entry_at whole ns g end e.entry e.there in
+          let x = entry_at whole ns g j m.element m.there in
+          let z = entry_at whole ns g end e.element e.there in
           let at_j = x.number in let at_end = z.number in let from = h.1 in let before = h.2 in
-          let d = end_deed z.item.kept.entry.made.op k (subst (λ (y : Entry). (y.made.op ≡ op.Resolve record { 0 = k }) ⊎ (y.made.op ≡ op.Abandon record { 0 = k })) z.note.entry e.event) in
+          let d = end_deed z.item.kept.entry.made.op k (subst (λ (y : Entry). (y.made.op ≡ op.Resolve record { 0 = k }) ⊎ (y.made.op ≡ op.Abandon record { 0 = k })) z.note.entry e.is) in
           let ended = managed_by z.item.role z.item.kept.entry.made z.is.stands d.1 (d.2 z.item.kept.entry.made.caller) in
           none_from whole ns g t i j (subst (λ q. IsBelow q (of_line (caller_line t) (first_of i whole))) at_j
-          (unknown z.item.kept x.item.kept (early whole e.entry end i z (omega arith) ended) d.0 (early whole m.entry j i x (omega arith) (managed_role whole m.entry j x m.managed)) (omega arith))) h;
+          (unknown z.item.kept x.item.kept (early whole e.element end i z (omega arith) ended) d.0
+          (early whole m.element j i x (omega arith) (managed_role whole m.element j x m.is)) (omega arith))) h;
     }
 
 unset_right : (whole : List Item) (ns : List Noted) → Noticed whole ns → (cells : List (Option ℕ)) → ((c : ℕ) → slot cells c ≡ target (of_line 0 whole) c) → (i : ℕ) (t : Thread) (c : ℕ)
     → ReadsWord (of_line 0 (first_of i whole)) (of_line (caller_line t) (first_of i whole)) c 0 → MayBeUnset ns cells i t c
 unset_right whole ns g cells same i t c reads = record {
   unknown = λ j k s l m h.
-      let z = entry_at whole ns g j s.entry s.there in
-      let x = entry_at whole ns g k m.entry m.there in
+      let z = entry_at whole ns g j s.element s.there in
+      let x = entry_at whole ns g k m.element m.there in
       let at_k = x.number in let at_j = z.number in let from = h.1 in let before = h.2 in
-      let sets = z.note.set c s.event s.set in
+      let sets = z.note.set c s.is.0 s.is.1 in
       none_from whole ns g t i k (subst (λ q. IsBelow q (of_line (caller_line t) (first_of i whole))) at_k
-      (reads.unknown refl z.item.kept x.item.kept (early whole s.entry j i z (omega arith) (setter whole s.entry j c z sets)) sets
-      (early whole m.entry k i x (omega arith) (managed_role whole m.entry k x m.managed)) (omega arith))) h;
+      (reads.unknown refl z.item.kept x.item.kept (early whole s.element j i z (omega arith) (setter whole s.element j c z sets)) sets
+      (early whole m.element k i x (omega arith) (managed_role whole m.element k x m.is)) (omega arith))) h;
   not_own = λ j s l mine.
-      let z = entry_at whole ns g j s.entry s.there in
-      let y = entry_at whole ns g j mine.entry mine.there in
+      let z = entry_at whole ns g j s.element s.there in
+      let y = entry_at whole ns g j mine.element mine.there in
       let one : y.item ≡ z.item = some-injective y.item z.item (sym y.there ∙ z.there) in
-      let caller : z.item.kept.entry.made.caller ≡ t = ap (λ (q : Item). q.kept.entry.made.caller) (sym one) ∙ (ap (λ (q : Entry). q.made.caller) (sym y.note.entry) ∙ mine.caller) in
+      let caller : z.item.kept.entry.made.caller ≡ t = ap (λ (q : Item). q.kept.entry.made.caller) (sym one) ∙ (ap (λ (q : Entry). q.made.caller) (sym y.note.entry) ∙ mine.is) in
       reads.not_own refl z.item.kept (item_stands (caller_line t) (first_of i whole) j z.item (in_first i whole j z.item l z.there) (caller_in (caller_line t) z.item (ap caller_line (sym caller))))
-      (z.note.set c s.event s.set);
+      (z.note.set c s.is.0 s.is.1);
   target_unfreed = λ m j is f l.
-      let z = entry_at whole ns g j f.entry f.there in
-      let frees = z.note.freed m f.frees in
-      let first = freer whole f.entry j m z frees in
+      let z = entry_at whole ns g j f.element f.there in
+      let frees = z.note.freed m f.is in
+      let first = freer whole f.element j m z frees in
       let set_it = ⊎_elim (λ e. absurd (none_not m e)) (λ q. q) (set_in c m None (of_line 0 whole) (sym (same c) ∙ is)) in
       let y = stands_item 0 whole set_it.0 set_it.1 in
       let sets : marked y.1.kept ≡ Some (c, m) = ap marked y.4 ∙ set_it.2 in
       let not_before : (q : ℕ) → j < q → is_freed (of_line 0 (first_of q whole)) m ≡ false → ⊥ = λ q less alive.
-      both_ways (has z.item.kept.freed m) (not_freed (of_line 0 (first_of q whole)) z.item.kept m alive (early whole f.entry j q z less first)) frees in
+      both_ways (has z.item.kept.freed m) (not_freed (of_line 0 (first_of q whole)) z.item.kept m alive (early whole f.element j q z less first)) frees in
       ⊎_elim
       (λ (less : y.0 < i). not_before i l (reads.alive refl m
       (set_once [] (first_of i whole) (fits_first i [] whole g.fits) (λ _ _ a s. absurd (some-ne-none a (sym s.1))) c m y.1.kept

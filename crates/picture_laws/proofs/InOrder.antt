@@ -13,13 +13,13 @@ use Rattle.joint_machine.specs.declared.events.Reply.TheVariants as says
 use Rattle.joint_machine.specs.Histories.{Finished, managed_numbers, peer_numbers, NumberedFrom, stretch}
 use Rattle.joint_machine.specs.Lines.{is_read}
 use Rattle.joint_machine.specs.Managed.{Managed}
-use Rattle.joint_machine.specs.Readers.{IsReadReply, SetsCell, FreesObject, IsEntryAt}
+use Rattle.joint_machine.specs.Readers.{IsReadReply, SetsCell, FreesObject}
 use Rattle.joint_machine.specs.Told.{Told, nothing, snap_of, sweep_of, resolution_of, Noted}
 use Rattle.joint_laws.specs.ReadingLaws.{IsLawfulReading}
 use Rattle.joint_laws.specs.Spans.{TellsNamed, TellsNoneFreed}
 use Rattle.known_laws.specs.PastEntries.{entries, turned}
 use Rattle.check_laws.specs.Behind.{in_turn, state_of, IsReplyBehind, RepliesBehind, IsInOrderBehind, AllInOrder}
-use Rattle.check_laws.specs.Known.{At}
+use Rattle.check_laws.specs.Known.{At, IsEntryAt}
 use Rattle.check_laws.specs.Reads.{AreInPlace, AllReadBehind, AllReadOver}
 use Rattle.check_laws.proofs.Knowing.{split}
 use Rattle.check_laws.proofs.Naming.{all_read}
@@ -80,17 +80,17 @@ module _ (ns : List Noted) where
     w.0,
     record {
       snap = i;
-      snaps = record { entry = snap_note c.0; there = at; event = refl };
+      snaps = record { element = snap_note c.0; there = at; is = refl };
       early = λ j l m. l;
-      unknown = λ j l e b m x. not-ended j c.0 e.entry e.there e.event;
+      unknown = λ j l e b m x. not-ended j c.0 e.element e.there e.is;
     },
   )
   reply-over past s i t k says.Unset at w = (
     w.0,
     record {
-      unknown = λ j l e b m x. not-set j k e.entry e.there e.event;
-      not_own = λ j e b m. not-set j k e.entry e.there e.event;
-      target_unfreed = λ m j e f b. not-freed j m f.entry f.there f.frees;
+      unknown = λ j l e b m x. not-set j k e.element e.there e.is.0;
+      not_own = λ j e b m. not-set j k e.element e.there e.is.0;
+      target_unfreed = λ m j e f b. not-freed j m f.element f.there f.is;
     },
   )
   reply-over past s i t k _ at w = w

@@ -237,8 +237,8 @@ none_frees_pinned noted w i j t m k g l none (inl s) =
     after-it noted w i t m g j s.entry (op.Snap record { 0 = k }) (snap_of s.freed s.candidates s.dead) l none s.there s.event s.told refl (λ v e. let f : true ≡ false = ap frees_objects e in cc)
     (Contains-append_right (reading_at noted j).managed.managed.heap.freed s.freed m s.frees)
 none_frees_pinned noted w i j t m k g l none (inr s) =
-    after-it noted w i t m g j s.entry (op.Resolve record { 0 = k }) (resolution_of s.alive s.freed) l none s.there s.event s.told refl (λ v e. let f : true ≡ false = ap frees_objects e in cc)
-    (Contains-append_right (reading_at noted j).managed.managed.heap.freed s.freed m s.frees)
+    after-it noted w i t m g j s.element (op.Resolve record { 0 = k }) (resolution_of s.is.1 s.is.2) l none s.there s.is.0 s.is.3 refl (λ v e. let f : true ≡ false = ap frees_objects e in cc)
+    (Contains-append_right (reading_at noted j).managed.managed.heap.freed s.is.2 m s.is.4)
 
 pub linked_pins_hold : LinkedPinsHold
 linked_pins_hold h noted w i j t m g l none = pinned_objects_live noted (noted, (managed_end noted).cells, w.lawful) i j t m g l none

@@ -90,7 +90,7 @@ module _ (past : List Noted) (n : Noted) where
         let k = reads-some n.entry.made.op e in
         let r = subst (IsReplyBehind past (state_of past).managed.managed n.entry.number n.entry.made.caller k.0) q (reads k.0 k.1) in
         elim r.1 [
-          | inl m ↦ inl (m.snaps.entry, at-in past m.snap m.snaps.entry (get-at past m.snap m.snaps.entry m.snaps.there), m.snaps.event)
+          | inl m ↦ inl (m.snaps.element, at-in past m.snap m.snaps.element (get-at past m.snap m.snaps.element m.snaps.there), m.snaps.is)
           | inr x ↦ inr x
         ]
 

@@ -11,12 +11,11 @@ use Rattle.joint_machine.specs.Headline.{IsSoundRun, IsCompleteRun}
 use Rattle.joint_machine.specs.Histories.{Finished}
 use Rattle.joint_machine.specs.Linked.{opening_linkage}
 use Rattle.joint_machine.specs.LinkedHistories.{IsLinked, IsLinkedBy, HasQueued, joint_projection}
-use Rattle.joint_machine.specs.Readers.{is_aside}
+use Rattle.joint_machine.specs.Readers.{HasEventAt, is_aside}
 use Rattle.joint_machine.specs.Run.{Moment, IsRun}
 use Rattle.joint_machine.specs.Told.{Noted}
 use Rattle.joint_laws.specs.Afterwards.{IsGoneAfter, NoMirrorBetween, ReadsObject, ReadsPeer, ResolveFrees, SweepFrees}
 use Rattle.joint_laws.specs.Afterwards.{reading_at}
-use Rattle.joint_laws.specs.EventsAt.{HasEventAt}
 use Rattle.joint_laws.specs.Readings.{AreExact}
 use Rattle.history_report.specs.Report.{report}
 use Rattle.script_laws.specs.Ending.{AllCyclesEnd}

@@ -27,7 +27,7 @@ module _ (reply : Reply) where
   read = note 3 (M 1) 4 (op.Line (act.Read (cell_no 0))) reply None nothing
 
   freed : ResolveFrees (read_after reply) 2 1 1
-  freed = record { entry = _; there = refl; event = refl; alive = []; freed = 1 ∷ []; told = refl; frees = one }
+  freed = record { element = _; there = refl; is = (refl, [], 1 ∷ [], refl, one) }
 
   reads : ReadsObject (reading_at (read_after reply) 3).managed.managed read 1
   reads = record { cell = 0; reads = refl; target = refl }
@@ -40,7 +40,7 @@ module _ (reply : Reply) where
   weak_read = note 3 (P 1) 4 (op.Line (act.WRead (var 1) (name_no 0))) reply None nothing
 
   swept : SweepFrees (weakly_read_after reply) 2 1
-  swept = record { entry = _; there = refl; event = refl; freed = 1 ∷ []; told = refl; frees = one }
+  swept = record { element = _; there = refl; is = (refl, 1 ∷ [], refl, one) }
 
   reads_weakly : ReadsPeer (reading_at (weakly_read_after reply) 3).peer weak_read 1
   reads_weakly = record { var = var 1; name = name_no 0; reads = refl; handle = 1; named = refl; leads = refl }

@@ -66,35 +66,37 @@ one x c = ⊎_elim (λ e. sym e) (λ d. absurd (Contains-nil x d)) (Contains-con
 
 pub freed_one : IsFreedWithPeer one_run 7 1
 freed_one = record {
-  moment = moment_at 7;
+  element = moment_at 7;
   there = refl;
-  handle = 1;
-  holds = record { live = record { made = omega arith; kept = refuted (member nat_eq is_same [] 1) refl }; held = refl };
-  peer = 1;
-  leads = refl;
-  swept = record {
-    marking = 1;
-    begin = 4;
-    sweep = 5;
-    freed = 1 ∷ [];
-    begins = record { moment = moment_at 4; there = refl; event = refl; reply = refl };
-    sweeps = record { moment = moment_at 5; there = refl; event = refl; span = span 0 1; reply = refl; frees = refl };
-    in_order = omega arith;
-    in_time = omega arith;
-    frees = (member nat_eq is_same (1 ∷ []) 1).holds refl;
-    row = object_was;
-    itself = peer_was;
-  };
+  is = (
+    1,
+    record { live = record { made = omega arith; kept = refuted (member nat_eq is_same [] 1) refl }; held = refl },
+    1,
+    refl,
+    record {
+      marking = 1;
+      begin = 4;
+      sweep = 5;
+      freed = 1 ∷ [];
+      begins = record { element = moment_at 4; there = refl; is = (refl, refl) };
+      sweeps = record { element = moment_at 5; there = refl; is = (refl, span 0 1, refl, refl) };
+      in_order = omega arith;
+      in_time = omega arith;
+      frees = (member nat_eq is_same (1 ∷ []) 1).holds refl;
+      row = object_was;
+      itself = peer_was;
+    },
+  );
 }
 
 -- the place and the data of a resolution, a sweep and a snapshot
 pub resolved_there : (i k : ℕ) (freed : List ℕ) → ResolvesAt one_run i k freed → (i ≡ 7) × (k ≡ 1) × (freed ≡ 1 ∷ [])
 resolved_there i k freed r =
-    let at = place (λ (m : Moment). is_resolve m.noted.entry.made.op) 7 one_run i r.moment refl r.there (subst (λ o. is_resolve o ≡ true) (sym r.event) refl) in
-    let same = same_place one_run i 7 r.moment (moment_at 7) r.there at refl in
-    let event : op.Resolve record { 0 = 1 } ≡ op.Resolve record { 0 = k } = subst (λ (m : Moment). m.noted.entry.made.op ≡ op.Resolve record { 0 = k }) (sym same) r.event in
-    let told : resolution_of (said_cleared ∷ []) (1 ∷ []) ≡ resolution_of r.alive freed = subst (λ (m : Moment). m.noted.told ≡ resolution_of r.alive freed) (sym same) r.frees in
-    (at, cycle_from k event, told_from r.alive freed told)
+    let at = place (λ (m : Moment). is_resolve m.noted.entry.made.op) 7 one_run i r.element refl r.there (subst (λ o. is_resolve o ≡ true) (sym r.is.0) refl) in
+    let same = same_place one_run i 7 r.element (moment_at 7) r.there at refl in
+    let event : op.Resolve record { 0 = 1 } ≡ op.Resolve record { 0 = k } = subst (λ (m : Moment). m.noted.entry.made.op ≡ op.Resolve record { 0 = k }) (sym same) r.is.0 in
+    let told : resolution_of (said_cleared ∷ []) (1 ∷ []) ≡ resolution_of r.is.1 freed = subst (λ (m : Moment). m.noted.told ≡ resolution_of r.is.1 freed) (sym same) r.is.2 in
+    (at, cycle_from k event, told_from r.is.1 freed told)
   where
     cycle_from : (k : ℕ) → op.Resolve record { 0 = 1 } ≡ op.Resolve record { 0 = k } → k ≡ 1
     cycle_from k e = sym (ap resolve_cycle e)
@@ -104,11 +106,11 @@ resolved_there i k freed r =
 
 pub swept_there : (i j : ℕ) (freed : List ℕ) → SweepsAt one_run i j freed → (i ≡ 5) × (j ≡ 1) × (freed ≡ 1 ∷ [])
 swept_there i j freed r =
-    let at = place (λ (m : Moment). is_sweep m.noted.entry.made.op) 5 one_run i r.moment refl r.there (subst (λ o. is_sweep o ≡ true) (sym r.event) refl) in
-    let same = same_place one_run i 5 r.moment (moment_at 5) r.there at refl in
-    let reply : says.Swept record { 0 = 1 } (span 0 1) ≡ says.Swept record { 0 = j } r.span = subst
-    (λ (m : Moment). m.noted.entry.made.reply ≡ says.Swept record { 0 = j } r.span) (sym same) r.reply in
-    let told : sweep_of (1 ∷ []) ≡ sweep_of freed = subst (λ (m : Moment). m.noted.told ≡ sweep_of freed) (sym same) r.frees in
+    let at = place (λ (m : Moment). is_sweep m.noted.entry.made.op) 5 one_run i r.element refl r.there (subst (λ o. is_sweep o ≡ true) (sym r.is.0) refl) in
+    let same = same_place one_run i 5 r.element (moment_at 5) r.there at refl in
+    let reply : says.Swept record { 0 = 1 } (span 0 1) ≡ says.Swept record { 0 = j } r.is.1 = subst
+    (λ (m : Moment). m.noted.entry.made.reply ≡ says.Swept record { 0 = j } r.is.1) (sym same) r.is.2 in
+    let told : sweep_of (1 ∷ []) ≡ sweep_of freed = subst (λ (m : Moment). m.noted.told ≡ sweep_of freed) (sym same) r.is.3 in
     (at, sym (ap swept_marking reply), told_from freed told)
   where
     told_from : (freed : List ℕ) → sweep_of (1 ∷ []) ≡ sweep_of freed → freed ≡ 1 ∷ []
@@ -116,9 +118,9 @@ swept_there i j freed r =
 
 pub snapped_there : (i k : ℕ) (freed candidates : List ℕ) → SnapsAt one_run i k freed candidates → freed ≡ []
 snapped_there i k freed candidates r =
-    let at = place (λ (m : Moment). is_snap m.noted.entry.made.op) 3 one_run i r.moment refl r.there (subst (λ o. is_snap o ≡ true) (sym r.event) refl) in
-    let same = same_place one_run i 3 r.moment (moment_at 3) r.there at refl in
-    told_from freed candidates r.dead (subst (λ (m : Moment). m.noted.told ≡ snap_of freed candidates r.dead) (sym same) r.frees)
+    let at = place (λ (m : Moment). is_snap m.noted.entry.made.op) 3 one_run i r.element refl r.there (subst (λ o. is_snap o ≡ true) (sym r.is.0) refl) in
+    let same = same_place one_run i 3 r.element (moment_at 3) r.there at refl in
+    told_from freed candidates r.is.1 (subst (λ (m : Moment). m.noted.told ≡ snap_of freed candidates r.is.1) (sym same) r.is.2)
   where
     told_from : (freed candidates dead : List ℕ) → snap_of [] (1 ∷ []) (1 ∷ []) ≡ snap_of freed candidates dead → freed ≡ []
     told_from freed candidates dead e = cc
@@ -130,7 +132,7 @@ one_sound = record {
   peers = λ i j p freed r c. let t = swept_there i j freed r in let which = one p (subst (λ l. Contains l p) t.2 c) in (
     4,
     sooner i t.0,
-    record { moment = moment_at 4; there = refl; event = refl; reply = ap (λ (n : ℕ). says.Mark record { 0 = n }) (sym t.1) },
+    record { element = moment_at 4; there = refl; is = (refl, ap (λ (n : ℕ). says.Mark record { 0 = n }) (sym t.1)) },
     subst (λ a. WasUnreached one_run 4 a (peer p)) (sym t.0) (subst (λ q. WasUnreached one_run 4 5 (peer q)) (sym which) peer_was),
   );
   snapped = λ i k m freed candidates r c. absurd (Contains-nil m (subst (λ l. Contains l m) (snapped_there i k freed candidates r) c));
@@ -150,16 +152,16 @@ cycle_complete = record {
   freed = [];
   candidates = 1 ∷ [];
   swept = 1 ∷ [];
-  snaps = record { moment = moment_at 3; there = refl; event = refl; dead = 1 ∷ []; frees = refl };
-  begins = record { moment = moment_at 4; there = refl; caller = refl; event = refl; reply = refl };
-  sweeps = record { moment = moment_at 5; there = refl; event = refl; span = span 0 1; reply = refl; frees = refl };
+  snaps = record { element = moment_at 3; there = refl; is = (refl, 1 ∷ [], refl) };
+  begins = record { element = moment_at 4; there = refl; is = (refl, refl, refl) };
+  sweeps = record { element = moment_at 5; there = refl; is = (refl, span 0 1, refl, refl) };
   begins_later = omega arith;
   sweeps_later = omega arith;
   ends_later = omega arith;
   objects = λ m c u. c;
-  peers = λ p made u. let same = same_place one_run 4 4 made.moment (moment_at 4) made.there refl refl in
-      let which = only_one p (subst (λ (m : Moment). IsMade m.before.graph.peers.heap p) (sym same) made.made) in
-      subst (λ q. IsPeerFreedAt one_run 5 q) (sym which) (record { moment = moment_at 5; there = refl; freed = (member nat_eq is_same (1 ∷ []) 1).holds refl });
+  peers = λ p made u. let same = same_place one_run 4 4 made.element (moment_at 4) made.there refl refl in
+      let which = only_one p (subst (λ (m : Moment). IsMade m.before.graph.peers.heap p) (sym same) made.is) in
+      subst (λ q. IsPeerFreedAt one_run 5 q) (sym which) (record { element = moment_at 5; there = refl; is = (member nat_eq is_same (1 ∷ []) 1).holds refl });
 }
   where
     only_one : (p : ℕ) → (1 ≤ p) × (p ≤ 1) → p ≡ 1

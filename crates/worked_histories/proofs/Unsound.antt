@@ -35,20 +35,20 @@ first (suc n) l = absurd (omega (arith, l))
 
 -- peer 2 is swept there, and object 2 freed
 sweeps : (run : List Moment) (i : ℕ) (j : Joint) → slice_get run i ≡ Some (moment_of j sweeps_two j) → SweepsAt run i 1 (2 ∷ [])
-sweeps run i j e = record { moment = moment_of j sweeps_two j; there = e; event = refl; span = record { first = 0; count = 1 }; reply = refl; frees = refl }
+sweeps run i j e = record { element = moment_of j sweeps_two j; there = e; is = (refl, record { first = 0; count = 1 }, refl, refl) }
 
 frees : (run : List Moment) (i : ℕ) (before after : Joint) → slice_get run i ≡ Some (moment_of before resolves_two after) → ResolvesAt run i 1 (2 ∷ [])
-frees run i before after e = record { moment = moment_of before resolves_two after; there = e; event = refl; alive = said_cleared ∷ []; frees = refl }
+frees run i before after e = record { element = moment_of before resolves_two after; there = e; is = (refl, said_cleared ∷ [], refl) }
 
 candidate : IsCandidateBefore freed_without_sweep 0 2
-candidate = record { moment = moment_of still resolves_two closed; there = refl; cycle = record { number = 1; candidates = 2 ∷ []; dead = 2 ∷ [] }; open_cycle = refl; candidate = two }
+candidate = record { element = moment_of still resolves_two closed; there = refl; is = (record { number = 1; candidates = 2 ∷ []; dead = 2 ∷ [] }, refl, two) }
 
 snap-frees : SnapsAt snapped_while_reached 0 1 (2 ∷ []) []
-snap-frees = record { moment = moment_of object_named snap_frees_two object_named; there = refl; event = refl; dead = []; frees = refl }
+snap-frees = record { element = moment_of object_named snap_frees_two object_named; there = refl; is = (refl, [], refl) }
 
 pub unsound : AreUnsound
 unsound = record {
-  candidates = λ s. let f = s.candidates 0 1 2 (2 ∷ []) (frees freed_without_sweep 0 still closed refl) two candidate in absurd (omega (arith, f.swept.in_time));
+  candidates = λ s. let f = s.candidates 0 1 2 (2 ∷ []) (frees freed_without_sweep 0 still closed refl) two candidate in absurd (omega (arith, f.is.4.in_time));
   begun = λ s. let w = s.peers 0 1 2 (2 ∷ []) (sweeps swept_without_begin 0 closed refl) two in absurd (omega (arith, w.1));
   at_begin = λ s. let w = s.peers 1 1 2 (2 ∷ []) (sweeps reached_at_begin 1 closed refl) two in
       subst (λ i. IsUnreachedAt reached_at_begin i (peer 2)) (first w.0 w.1) w.3.at_begin (moment_of peer_named begins_one peer_named) refl peer-reached;
@@ -70,19 +70,19 @@ one-state j n (suc (suc (suc (suc i)))) m e = absurd cc
 -- its snapshot is the first entry
 the-candidate : (i : ℕ) (freed candidates : List ℕ) → SnapsAt leaves_candidate i 1 freed candidates → candidates ≡ 2 ∷ []
 the-candidate zero freed candidates s =
-    let e : s.moment ≡ moment_of still snaps_two still = cc in
-    let f : snap_of [] (2 ∷ []) (2 ∷ []) ≡ snap_of freed candidates s.dead = subst (λ (k : Moment). k.noted.told ≡ snap_of freed candidates s.dead) e s.frees in
+    let e : s.element ≡ moment_of still snaps_two still = cc in
+    let f : snap_of [] (2 ∷ []) (2 ∷ []) ≡ snap_of freed candidates s.is.1 = subst (λ (k : Moment). k.noted.told ≡ snap_of freed candidates s.is.1) e s.is.2 in
     cc
-the-candidate (suc zero) freed candidates s = absurd (let e : moment_of still begins_one still ≡ s.moment = cc in
-    let g = subst (λ k. k.noted.entry.made.op ≡ op.Snap record { 0 = 1 }) (sym e) s.event in cc)
-the-candidate (suc (suc zero)) freed candidates s = absurd (let e : moment_of still sweeps_none still ≡ s.moment = cc in
-    let g = subst (λ k. k.noted.entry.made.op ≡ op.Snap record { 0 = 1 }) (sym e) s.event in cc)
+the-candidate (suc zero) freed candidates s = absurd (let e : moment_of still begins_one still ≡ s.element = cc in
+    let g = subst (λ k. k.noted.entry.made.op ≡ op.Snap record { 0 = 1 }) (sym e) s.is.0 in cc)
+the-candidate (suc (suc zero)) freed candidates s = absurd (let e : moment_of still sweeps_none still ≡ s.element = cc in
+    let g = subst (λ k. k.noted.entry.made.op ≡ op.Snap record { 0 = 1 }) (sym e) s.is.0 in cc)
 the-candidate (suc (suc (suc zero))) freed candidates s = absurd
-    (let e : moment_of still resolves_none still ≡ s.moment = cc in let g = subst (λ k. k.noted.entry.made.op ≡ op.Snap record { 0 = 1 }) (sym e) s.event in cc)
+    (let e : moment_of still resolves_none still ≡ s.element = cc in let g = subst (λ k. k.noted.entry.made.op ≡ op.Snap record { 0 = 1 }) (sym e) s.is.0 in cc)
 the-candidate (suc (suc (suc (suc i)))) freed candidates s = absurd (let e = s.there in cc)
 
 resolves : (j : Joint) (n : Noted) → ResolvesAt (cycle_run j n) 3 1 []
-resolves j n = record { moment = moment_of j resolves_none j; there = refl; event = refl; alive = said_cleared ∷ []; frees = refl }
+resolves j n = record { element = moment_of j resolves_none j; there = refl; is = (refl, said_cleared ∷ [], refl) }
 
 pub incomplete : AreIncomplete
 incomplete = record {
@@ -91,9 +91,9 @@ incomplete = record {
       (λ i from to m e r. refuted (joint_reached still.graph (object 2)) refl (subst (λ j. IsReached j (object 2)) (one-state still snaps_two i m e).1 r)));
   peers = λ s.
       let c = s 3 1 [] (resolves closed snaps_nothing) in
-      let made = subst (λ j. IsMade j.graph.peers.heap 2) (sym (one-state closed snaps_nothing c.begin c.begins.moment c.begins.there).0) (omega arith, omega arith) in
-      let f = c.peers 2 (record { moment = c.begins.moment; there = c.begins.there; made = made })
+      let made = subst (λ j. IsMade j.graph.peers.heap 2) (sym (one-state closed snaps_nothing c.begin c.begins.element c.begins.there).0) (omega arith, omega arith) in
+      let f = c.peers 2 (record { element = c.begins.element; there = c.begins.there; is = made })
       (λ i from to m e is r. refuted (joint_reached closed.graph (peer 2)) refl (subst (λ j. IsReached j (peer 2)) (one-state closed snaps_nothing i m e).1 r)) in
-      Contains-nil 2 (subst (λ j. Contains j.graph.peers.heap.freed 2) (one-state closed snaps_nothing c.sweep f.moment f.there).1 f.freed);
-  alone = λ s. let c = s 0 1 [] (record { moment = moment_of still resolves_none closed; there = refl; event = refl; alive = said_cleared ∷ []; frees = refl }) in absurd (omega (arith, c.ends_later));
+      Contains-nil 2 (subst (λ j. Contains j.graph.peers.heap.freed 2) (one-state closed snaps_nothing c.sweep f.element f.there).1 f.is);
+  alone = λ s. let c = s 0 1 [] (record { element = moment_of still resolves_none closed; there = refl; is = (refl, said_cleared ∷ [], refl) }) in absurd (omega (arith, c.ends_later));
 }
