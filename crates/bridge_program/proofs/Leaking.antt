@@ -2,14 +2,11 @@
 use Rattle.std.proofs.Common.{◌≡◌, ℕ, ◌+◌, ◌≤◌, inl, inr, List, ◌++◌, length, Option, Some, None, refl, sym, ap, subst, ◌∙◌, arith, append-nil, length-append}
 use Rattle.std.specs.Io.KnownBytes.{IsAtEnd}
 use Rattle.byte_streams.specs.Reading.{Took}
-use Rattle.bridge_script.specs.declared.faults.Cause.TheVariants as cause
-use Rattle.bridge_script.specs.Causes.{fault_text}
 use Rattle.log_text.specs.declared.lines.LogCause.{LogCause}
 use Rattle.log_text.specs.declared.lines.LogLine.{LogLine}
 use Rattle.log_text.specs.Answers.{refusal_text}
 use Rattle.log_text.specs.Text.{IsLogText}
-use Rattle.gref_log.specs.Limit.{IsLongLine}
-use Rattle.bridge_program.specs.Logs.{IsLineWrong, IsRefusal, LeftOf, LeftPut, LogFaultPut, MOST_BYTES, UnreleasedPut, left_text}
+use Rattle.bridge_program.specs.Logs.{IsLineWrong, IsRefusal, LeftOf, MOST_BYTES, UnreleasedPut, left_text}
 
 -- a text that names a line was put, of which the line is wrong, or too long
 module _ (bytes : List ℕ) (Put : List ℕ → Type 0) where
@@ -19,22 +16,13 @@ module _ (bytes : List ℕ) (Put : List ℕ → Type 0) where
   pub puts_wrong : (number : ℕ) (why : LogCause) → IsLineWrong bytes number why → Put (refusal_text number why) → PutsRefusal
   puts_wrong number why w p = (refusal_text number why, inl (record { number = number; why = why; wrong = w; is = refl }), p)
 
-  pub puts_long : (number : ℕ) → length bytes ≡ MOST_BYTES + 1 → IsLongLine MOST_BYTES bytes number → Put (fault_text record { line = number; cause = cause.Bytes }) → PutsRefusal
-  puts_long number l w p = (fault_text record { line = number; cause = cause.Bytes }, inr (record { number = number; long = l; line = w; is = refl }), p)
-
   pub puts_left : (lines : List LogLine) → IsLogText bytes lines → (left : LeftOf lines) × Put (left_text left) → UnreleasedPut bytes Put
   puts_left lines t p = record { lines = lines; reads = t; left_over = p.0; text = p.1 }
 
   -- so of what was taken from a source
   module _ (left rest : Option (List ℕ)) (took : Took MOST_BYTES left rest bytes) where
-    pub refused_so : PutsRefusal → LogFaultPut left rest Put
-    refused_so p = record { input = bytes; took = took; answer = p.0; refusal = p.1; text = p.2 }
-
     ended : length bytes ≤ MOST_BYTES → IsAtEnd rest
     ended l = elim took.stopped [ inl a ↦ a | inr e ↦ absurd (omega (arith, e, l)) ]
-
-    pub left_so : length bytes ≤ MOST_BYTES → UnreleasedPut bytes Put → LeftPut left rest Put
-    left_so l p = record { input = bytes; taken = took.taken; ended = ended l; short = l; put = p }
 
 -- all of a source that has no more than the limit was taken
 all-taken : (left rest : Option (List ℕ)) (input bytes : List ℕ) → left ≡ Some input → length input ≤ MOST_BYTES → Took MOST_BYTES left rest bytes → bytes ≡ input

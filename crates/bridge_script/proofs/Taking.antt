@@ -118,18 +118,6 @@ took_all places words i ws xs l k =
     let S : List Operand → Type 0 = λ z. StandAll places z in
     (subst S (append-nil xs) ((subst F none k).stand [] tt), k.begins)
 
-pub took_only : (places : List Place) (words : List (List ℕ)) (i : ℕ) (ws : List (List ℕ)) (xs zs : List Operand) (rest : List (List ℕ))
-    → length places ≤ i → Took places words (drop i places) ws xs → StandAll places zs → words ≡ texts zs ++ rest → (xs ≡ zs) × (ws ≡ rest)
-took_only places words i ws xs zs rest l k s t =
-    let none : drop i places ≡ [] = nil_from_length (drop i places) (omega (arith, length-drop i places)) in
-    let F : List Place → Type 0 = λ p. Took places words p ws xs in
-    let g = (subst F none k).only zs rest s t in
-    by g.more g.whole g.stand g.left
-  where
-    by : (more : List Operand) → zs ≡ xs ++ more → StandAll [] more → ws ≡ texts more ++ rest → (xs ≡ zs) × (ws ≡ rest)
-    by [] e u v = (sym (append-nil xs) ∙ sym e, v)
-    by (y ∷ more) e u v = absurd u
-
 -- the kind of an act that a line can have allows what stands beside it
 possible : (t : Thread) (a : Act) → IsLine t a → IsPossible a
 possible (M m) (act.New v k n) l = l.1.1

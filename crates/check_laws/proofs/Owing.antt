@@ -71,10 +71,6 @@ module _ (x : Noted) (h : List Noted) (quiet : is_managed_entry x ≡ false) whe
       }
       by again None q false p e = absurd (none_some n e)
 
-read-at : (later : List Noted) (x : Noted) (h : List Noted) → At (later ++ x ∷ h) (length h) x
-read-at [] x h = inl (refl, refl)
-read-at (y ∷ later) x h = inr (read-at later x h)
-
 pub pending_owed : PendingIsOwed
 pending_owed later x h k quiet fresh = (forth, back)
   where

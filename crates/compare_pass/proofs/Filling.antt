@@ -1,7 +1,7 @@
 -- The table gets an entry for each node, in their order.
 use Rattle.std.proofs.Common.{◌≡◌, ℕ, ◌+◌, ◌<◌, List, [], ◌∷◌, ◌++◌, Some, length, map, get_or, take, slice_get, refl, sym, ◌∙◌, ap, arith}
 use Rattle.std.specs.Prelude.{All, Contains}
-use Rattle.std.proofs.lemmas.List.{length-map, map_push, take_more, length-take, get_or-take, get_or_default}
+use Rattle.std.proofs.lemmas.List.{map_push, take_more, length-take, get_or-take, get_or_default}
 use Rattle.std.proofs.lemmas.List.Elements.{All-push}
 use Rattle.std.proofs.lemmas.Option.{slice_get_within, get_or_from_slice_get}
 use Rattle.indexmap.specs.IndexMap.{insert_entry}
@@ -33,7 +33,3 @@ table-more nodes x es after m v e r n a i =
       ap (λ zs. map number_of zs) last ∙ map_push number_of es (m, v) ∙ ap (λ ns. ns ++ m.0 ∷ []) n ∙ sym (take_more (numbers_of nodes) x 0 lt ∙ ap (λ k. take x (numbers_of nodes) ++ k ∷ []) here),
       rw (last, map_push label_in es (m, v)) (All-push (λ l. l ≡ v) (map label_in es) v a refl),
     )
-
--- in the end each node has its entry
-pub table-size : (nodes : List Node) (es : List (MNum × ℕ)) → map number_of es ≡ numbers_of nodes → length (map label_in es) ≡ length nodes
-table-size nodes es n = length-map es label_in ∙ sym (length-map es number_of) ∙ ap length n ∙ length-map nodes (λ (k : Node). k.number.0)

@@ -239,13 +239,6 @@ module _ (bridge : ℕ → Type 0) (edge : ℕ → ℕ → Type 0) (g : Listed) 
       (λ f. (f.member, λ y c m. f.least y ((l.picks y).holds ((in_bridges y).passes c)) m))
       (and2 (l.picks b) (first_one b))
 
-  -- bridge nodes that pass a test
-  where_bridges : (test : ℕ → Bool) (b : ℕ) → Tells (mem nat_eq (bridges_where g test) b) ((has g.bridges b ≡ true) × (test b ≡ true))
-  where_bridges test b = like {P = (mem nat_eq (count_from 0 (above g.bridges)) b ≡ true) × ((has g.bridges b && test b) ≡ true)}
-      (λ p. (and2 (is_true (has g.bridges b)) (is_true (test b))).holds p.1)
-      (λ p. ((counted 0 (above g.bridges) b).passes (in_above g.bridges b p.0), (and2 (is_true (has g.bridges b)) (is_true (test b))).passes p))
-      (member_filter nat_eq same (λ b. has g.bridges b && test b) (count_from 0 (above g.bridges)) b)
-
   led_by : (x : ℕ) (test : ℕ → Bool) (P : ℕ → Type 0) → ((b : ℕ) → Tells (test b) (P b)) → (b : ℕ) → Tells (has g.bridges b && (is_first g b && test b)) (IsFirst bridge edge b × P b)
   led_by x test P t b = like {P = (bridge b) × (((y : ℕ) → Contains g.bridges y → Mutual edge b y → b ≤ y) × P b)}
       (λ p. ((first b).holds ((and2 (l.picks b) (first_one b)).passes (p.0, p.1.0)), p.1.1))

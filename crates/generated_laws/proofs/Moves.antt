@@ -118,9 +118,6 @@ module _ (s : Linkage) (k : Of s) (minds : ℕ → Mind) (fills : ℕ → Filled
   abbrev said : List Answer
   said = given_at s.control.stand
 
-  filled-from : (o : Op) (i : ℕ) → is_some (slot groups i) ≡ true → (is_some (slot groups i) ≡ true) ⊎ Fills i o
-  filled-from o i e = inl e
-
   -- what a variable names
   named : (v : ℕ) (x : Seen) → at (minds u).slots v ≡ Some x → slot sm.heap.vars (place u v) ≡ Some x.number
   named v x e = w.vars u v (let l = at-small (minds u).slots v x e in omega (arith, l)) ∙ ap number_of e

@@ -5,13 +5,9 @@ use Rattle.std.proofs.Common.{◌≡◌, ◌≢◌, ℕ, ◌<◌, ◌≤◌, eqb
 use Rattle.std.proofs.lemmas.Option.{none-some, same_Some}
 use Rattle.std.proofs.lemmas.Bool.Decides.{nat_tests}
 use Rattle.joint_machine.specs.declared.names.HNum.{HNum}
-use Rattle.joint_machine.specs.declared.names.PNum.{PNum}
 use Rattle.joint_machine.proofs.Deciding.{neq-eqb}
 use Rattle.global_handles.specs.declared.HandleRow.{HandleRow}
-use Rattle.global_handles.specs.declared.Hold.TheVariants.{Held}
-use Rattle.global_handles.specs.declared.Strength.TheVariants.{Strong}
-use Rattle.global_handles.specs.Rows.{row_in, target_in, changed, fresh_row, renewed, without, RisesBetween}
-use Rattle.global_handles.proofs.Rows.{RisesBetween-without}
+use Rattle.global_handles.specs.Rows.{row_in, changed, without, RisesBetween}
 
 -- what rises between two numbers keeps them in order
 pub RisesBetween-within : (low high : ℕ) (rows : List HandleRow) → RisesBetween low high rows → low ≤ high
@@ -94,21 +90,6 @@ row_in-without_other (x ∷ rs) h other apart = by (eqb h.0 x.number.0) refl (ro
         let no : other.0 ≢ x.number.0 = λ same. apart (same ∙ sym here) in
         rw (e, neq-eqb other.0 x.number.0 no) rest
     by false e rest = rw (e, rest) refl
-
--- a renewed row is found under its new number, and no more under the old one; each other look-up stays
-pub row_in-renewed_new : (low high : ℕ) (rows : List HandleRow) (h g : HNum) (p : PNum) → RisesBetween low high rows
-    → high < g.0 → target_in rows h ≡ Some p → row_in (renewed h g rows) g ≡ Some (fresh_row g p Held Strong)
-row_in-renewed_new low high rows h g p rises above target =
-    let new = row_in-above low high (without h rows) g above (RisesBetween-without h low high rows rises) in
-    rw target (row_in-push_new (without h rows) (fresh_row g p Held Strong) new)
-
-pub row_in-renewed_old : (rows : List HandleRow) (h g : HNum) (p : PNum) → h.0 ≢ g.0 → target_in rows h ≡ Some p → row_in (renewed h g rows) h ≡ None
-row_in-renewed_old rows h g p apart target =
-    rw target (row_in-push_other (without h rows) (fresh_row g p Held Strong) h apart ∙ row_in-without_same rows h)
-
-pub row_in-renewed_other : (rows : List HandleRow) (h g other : HNum) (p : PNum) → other.0 ≢ h.0 → other.0 ≢ g.0 → target_in rows h ≡ Some p → row_in (renewed h g rows) other ≡ row_in rows other
-row_in-renewed_other rows h g other p apart apart' target =
-    rw target (row_in-push_other (without h rows) (fresh_row g p Held Strong) other apart' ∙ row_in-without_other rows h other apart)
 
 -- what a pass over all rows reads at a place is found under its number, and each row that is found is read at some
 -- place

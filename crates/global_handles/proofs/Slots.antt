@@ -399,18 +399,6 @@ length-renewed high n ss es h r e rise above st row uncleared =
     let goes = rows_of-renewed ss es h high st.slot (name_anew n e) st.kept (kept_anew n) (OnePlace-found 0 high es h e rise st.found) rise st.there st.row st.same_number refl above in
     omega (arith, ap length goes, length_push (without h (rows_of ss es)) (row_at n st.slot.peer (kept_anew n)), length-without 0 high (rows_of ss es) h r (RisesBetween-named 0 high ss es rise) row)
 
--- a handle with a target has a row that isn't cleared
-pub target-row : (rows : List HandleRow) (h : HNum) → target_in rows h ≢ None → (r : HandleRow) × (row_in rows h ≡ Some r) × (r.cleared ≡ false)
-target-row rows h some = by (row_in rows h) refl
-  where
-    by_cleared : (r : HandleRow) (b : Bool) → row_in rows h ≡ Some r → r.cleared ≡ b → (r : HandleRow) × (row_in rows h ≡ Some r) × (r.cleared ≡ false)
-    by_cleared r true is cleared = absurd (some (rw (is, cleared) refl))
-    by_cleared r false is cleared = (r, is, cleared)
-
-    by : (o : Option HandleRow) → row_in rows h ≡ o → (r : HandleRow) × (row_in rows h ≡ Some r) × (r.cleared ≡ false)
-    by None is = absurd (some (rw is refl))
-    by (Some r) is = by_cleared r r.cleared is refl
-
 -- a cleared slot's row is cleared
 cleared-put : (p : PNum) (n : ℕ) (s : Slot) (o : Option Kept) (rows : List HandleRow) → s.row ≡ o
     → put (row_of n (cleared_slot p s)) (cleared_for p rows) ≡ cleared_for p (put (kept_row n s.peer o) rows)

@@ -87,19 +87,3 @@ pub record Listed (es rest : List Entry) (m : InMaking) (list : List LogLine) : 
   pub same : logged_all (behind_lines list m) rest ≡ logged_all nothing_logged es
   pub fits : All Fits list
   pub room : length rest ≤ m.room
-
-pub none-listed : (es : List Entry) (m : InMaking) (list : List LogLine) → list ≡ [] → behind_lines [] m ≡ nothing_logged → length es ≤ m.room → Listed es es m list
-none-listed es m list z e room = record {
-  same = ap (λ l. logged_all (behind_lines l m) es) z ∙ ap (λ x. logged_all x es) e;
-  fits = subst (All Fits) (sym z) (All-nil Fits);
-  room = room;
-}
-
-pub one-listed : (es rest : List Entry) (e : Entry) (m n : InMaking) (list : List LogLine) (l : Lines) → Listed es (e ∷ rest) m list
-    → ((ls : List LogLine) → behind_lines (ls ++ made_lines l) n ≡ logged_after (behind_lines ls m) e) → All Fits (made_lines l) → m.room ≤ n.room + 1
-    → Listed es rest n (list ++ made_lines l)
-one-listed es rest e m n list l w s fits room = record {
-  same = ap (λ x. logged_all x rest) (s list) ∙ w.same;
-  fits = All-append Fits list (made_lines l) w.fits fits;
-  room = (let r = w.room in omega (arith, r, room));
-}

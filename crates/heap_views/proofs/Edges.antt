@@ -7,16 +7,12 @@ use Rattle.std.proofs.lemmas.List.Elements.{Contains-append_left, Contains-push,
 use Rattle.joint_machine.specs.Cycles.{DeadEdge}
 use Rattle.joint_machine.specs.Heaps.{HasField, IsLive, fields_of}
 use Rattle.joint_machine.specs.Managed.{Managed}
-use Rattle.joint_machine.proofs.Members.{Contains-at, Contains-nil, take-next}
+use Rattle.joint_machine.proofs.Members.{Contains-at, take-next}
 use Rattle.joint_replay.specs.Plain.{dead_of, kept_target}
 use Rattle.joint_replay.proofs.Finding.{kept-live, live-kept}
 use Rattle.bridge_graph.specs.Parts.{NodeLeads}
 use Rattle.heap_views.specs.Mirrored.{HasDead, is_dead}
 use Rattle.heap_views.proofs.Nodes.{dead-true, true-dead}
-
--- nothing is added
-pub none-more : (P Q : Type 0) → (Q → ⊥) → P ↔ (P ⊎ Q)
-none-more P Q n = (λ p. inl p, λ c. elim c [ inl p ↦ p | inr q ↦ absurd (n q) ])
 
 -- a row of edges gets one more
 leads-more : (es : List (List ℕ)) (from to a k : ℕ) → from < length es → NodeLeads (set es from (get_or es from [] ++ to ∷ [])) a k ↔ (NodeLeads es a k ⊎ ((a ≡ from) × (k ≡ to)))
@@ -106,13 +102,7 @@ rows-more s i m mid new at f g a k =
       ]),
     )
 
--- before the first row, and behind the last
-pub rows-none : (s : Managed) (es : List (List ℕ)) → ((a : ℕ) → get_or es a [] ≡ []) → (a k : ℕ) → NodeLeads es a k ↔ (Contains (take 0 (dead_of s)) a × DeadEdge s (dead_of s) a k)
-rows-none s es none a k = (
-  λ c. absurd (Contains-nil k (subst (λ xs. Contains xs k) (none a) c)),
-  λ c. absurd (Contains-nil a c.0),
-)
-
+-- behind the last row
 pub rows-all : (s : Managed) (n : ℕ) (es : List (List ℕ)) → length (dead_of s) ≤ n
     → ((a k : ℕ) → NodeLeads es a k ↔ (Contains (take n (dead_of s)) a × DeadEdge s (dead_of s) a k))
     → (a k : ℕ) → NodeLeads es a k ↔ DeadEdge s (dead_of s) a k

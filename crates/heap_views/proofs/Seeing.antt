@@ -1,5 +1,5 @@
 -- What is seen goes on by one entry.
-use Rattle.std.proofs.Common.{◌≡◌, ℕ, zero, suc, ◌+◌, ◌<◌, ◌≤◌, List, [], ◌∷◌, ◌++◌, Bool, true, false, Some, None, length, Result, Ok, Err, take, refl, sym, subst, arith}
+use Rattle.std.proofs.Common.{◌≡◌, ℕ, zero, suc, ◌+◌, ◌<◌, List, [], ◌∷◌, ◌++◌, Bool, true, false, Some, None, length, Result, Ok, Err, take, refl, sym, subst, arith}
 use Rattle.std.specs.Prelude.{IfOk, slice_get}
 use Rattle.joint_machine.specs.declared.events.Entry.{Entry}
 use Rattle.joint_machine.specs.Histories.{Finished}
@@ -7,7 +7,7 @@ use Rattle.joint_machine.proofs.Members.{take-next}
 use Rattle.joint_replay.specs.declared.state.Verdict.{Verdict}
 use Rattle.joint_replay.specs.declared.state.Verdict.TheVariants.{Lawful, Unlawful}
 use Rattle.joint_replay.specs.Judging.{Judges}
-use Rattle.heap_views.specs.Views.{GoesOn, IsSeenOn, IsStuck, MovesOn, Seen, StepBy, View, ViewStep, is_lawful, is_step, opening_view}
+use Rattle.heap_views.specs.Views.{GoesOn, IsSeenOn, MovesOn, Seen, StepBy, View, ViewStep, is_lawful, is_step, opening_view}
 
 pub if_ok : {T E : Type 0} (r : Result T E) (P Q : T → Type 0) → ((t : T) → P t → Q t) → IfOk r P → IfOk r Q
 if_ok (Ok t) P Q f p = f t p
@@ -31,9 +31,6 @@ pub seen-on : (went : Bool) (h : Finished) (i : ℕ) (e : Entry) (old new : View
     → Seen h opening_view (take i h.entries) old → GoesOn went h e old new → IsSeenOn went h i new
 seen-on true h i e old new t s g = subst (λ es. Seen h opening_view es new) (sym (take-next h.entries i e t)) (Seen-push h opening_view (take i h.entries) old new e s g)
 seen-on false h i e old new t s g = record { place = i; within = omega arith; before = old; seen = s; entry = e; there = t; stuck = g }
-
-pub stuck-later : (h : Finished) (i n : ℕ) → i ≤ n → IsStuck h i → IsStuck h n
-stuck-later h i n l s = record { place = s.place; within = omega (arith, l, s.within); before = s.before; seen = s.seen; entry = s.entry; there = s.there; stuck = s.stuck }
 
 pub there-is : {A : Type 0} (xs : List A) (i : ℕ) → i < length xs → slice_get xs i ≡ None → ⊥
 there-is [] i l e = absurd (omega (arith, l))

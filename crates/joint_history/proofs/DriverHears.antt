@@ -10,7 +10,7 @@ use Rattle.joint_machine.specs.Managed.{Managed, opening_managed}
 use Rattle.order_table.specs.declared.views.View.{View}
 use Rattle.order_table.specs.Tells.{TakesIn, BeginsOneHistory}
 use Rattle.order_table.specs.Views.{known}
-use Rattle.joint_history.specs.Callers.{CallerKnows, HoldsPass, KeepsReads, KnowsNothing}
+use Rattle.joint_history.specs.Callers.{HoldsPass, KeepsReads, KnowsNothing}
 use Rattle.joint_history.specs.Driven.{DriverRests, DriverStands}
 use Rattle.view_laws.specs.Knowing.{IsDrawnView}
 use Rattle.joint_history.proofs.DeadParts.{dead_part_self}
@@ -40,9 +40,6 @@ driver_pass t v is h = subst (λ (u : Thread). HoldsPass u v) (driver_is t is) h
 
 pub driver_pass_back : (t : Thread) (v : View) → IsDriver t → HoldsPass C v → HoldsPass t v
 driver_pass_back t v is h = subst (λ (u : Thread). HoldsPass u v) (sym (driver_is t is)) h
-
-pub driver_knows : (t : Thread) (v : View) (index : ℕ) (stand : Stand) (seen : Managed) → IsDriver t → DriverStands v index stand seen → CallerKnows t v
-driver_knows t v index stand seen is s = subst (λ (u : Thread). CallerKnows u v) (sym (driver_is t is)) (record { known = s.known; released = tt })
 
 -- and it reads no cells
 pub driver_reads : (t : Thread) (old new : View) (es : List Entry) → IsDriver t → KeepsReads t old es → KeepsReads t new es

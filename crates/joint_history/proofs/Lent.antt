@@ -3,7 +3,6 @@
 use Rattle.std.proofs.Common.{ℕ, [], inl, refl, sym, ap, ◌∙◌, true≢false}
 use base.Growing.{prefix_refl}
 use Rattle.joint_machine.specs.declared.names.Thread.{Thread}
-use Rattle.joint_machine.specs.HistoryLines.{caller_line}
 use Rattle.joint_machine.specs.ManagedReplay.{ManagedReplay}
 use Rattle.joint_machine.specs.Sides.{Side}
 use Rattle.order_table.specs.declared.views.View.{View}
@@ -12,13 +11,8 @@ use Rattle.order_table.specs.Tells.{BeginsOneHistory}
 use Rattle.order_table.specs.Views.{Owns, known}
 use Rattle.seat_calls.specs.Passing.{Lends, Returns}
 use Rattle.view_laws.specs.Knowing.{IsDrawnView}
-use Rattle.joint_history.specs.Callers.{HoldsPass}
 use Rattle.joint_history.specs.Locked.{ManagedKnows}
-use Rattle.joint_history.proofs.KnownCallers.{own_line}
 use Rattle.joint_history.proofs.LockedSteps.{lent_joined}
-
-pub owns_lent : (t : Thread) (locked mine lent mine1 : View) → Owns locked 0 → HoldsPass t mine → Lends t locked mine lent mine1 → Owns lent 0 × Owns lent (caller_line t)
-owns_lent t locked mine lent mine1 owns pass l = (l.kept 0 owns, l.lines (caller_line t) (own_line t) (pass (caller_line t) (own_line t)))
 
 pub knows_lent : (t : Thread) (locked mine lent mine1 : View) (side : Side ManagedReplay) → Owns locked 0
     → ManagedKnows locked side → IsDrawnView mine → Lends t locked mine lent mine1 → ManagedKnows lent side

@@ -23,11 +23,6 @@ leads-none e (t ∷ ts) q w = Contains-nil (e, temporary t) w.0
 pub Refers-none : (p q : ℕ) → Refers [] p q → ⊥
 Refers-none p q r = leads-none (node p) r.through q r.walk
 
--- more references lead further
-pub leads-mono : (refs more : List (End × End)) → ((x : End × End) → Contains refs x → Contains more x) → (e : End) (ts : List ℕ) (q : ℕ) → LeadsOver refs e ts q → LeadsOver more e ts q
-leads-mono refs more m e [] q w = m (e, node q) w
-leads-mono refs more m e (t ∷ ts) q w = (m (e, temporary t) w.0, leads-mono refs more m (temporary t) ts q w.1)
-
 -- a single reference
 pub Refers-one : (refs : List (End × End)) (p q : ℕ) → Contains refs (node p, node q) → Refers refs p q
 Refers-one refs p q c = record { through = []; walk = c }

@@ -1,5 +1,5 @@
 -- Tests and options: what an answer says, and what holds in each case of a choice.
-use Rattle.std.proofs.Common.{◌≡◌, ◌≢◌, ℕ, ◌↔◌, ◌⊎◌, inl, inr, Bool, true, false, not, ◌||◌, Option, Some, None, IsTrue, refl, arith, eqb, if◌then◌else◌, ◌&&◌, zero, suc, ◌≤◌, sym, ap, ◌∙◌}
+use Rattle.std.proofs.Common.{◌≡◌, ◌≢◌, ℕ, ◌↔◌, ◌⊎◌, inl, inr, Bool, true, false, not, ◌||◌, Option, Some, None, IsTrue, refl, arith, eqb, if◌then◌else◌, ◌&&◌, sym, ap, ◌∙◌}
 use Rattle.std.specs.Prelude.{is_some, nat_eq}
 use Rattle.std.proofs.lemmas.Bool.{eq-eqb, eqb-true}
 use Rattle.std.proofs.lemmas.Bool.Decides.{nat_tests}
@@ -74,19 +74,6 @@ and-true false b e = absurd (let f : false ≡ true = e in cc)
 pub and-both : (a b : Bool) → a ≡ true → b ≡ true → (a && b) ≡ true
 and-both true b e f = f
 and-both false b e f = e
-
--- a number from 1 to 8
-pub one_to_eight : (P : ℕ → Type 0) → P 1 → P 2 → P 3 → P 4 → P 5 → P 6 → P 7 → P 8 → (t : ℕ) → 1 ≤ t → t ≤ 8 → P t
-one_to_eight P a b c d e f g h zero low high = absurd (omega arith)
-one_to_eight P a b c d e f g h (suc zero) low high = a
-one_to_eight P a b c d e f g h (suc (suc zero)) low high = b
-one_to_eight P a b c d e f g h (suc (suc (suc zero))) low high = c
-one_to_eight P a b c d e f g h (suc (suc (suc (suc zero)))) low high = d
-one_to_eight P a b c d e f g h (suc (suc (suc (suc (suc zero))))) low high = e
-one_to_eight P a b c d e f g h (suc (suc (suc (suc (suc (suc zero)))))) low high = f
-one_to_eight P a b c d e f g h (suc (suc (suc (suc (suc (suc (suc zero))))))) low high = g
-one_to_eight P a b c d e f g h (suc (suc (suc (suc (suc (suc (suc (suc zero)))))))) low high = h
-one_to_eight P a b c d e f g h (suc (suc (suc (suc (suc (suc (suc (suc (suc t))))))))) low high = absurd (omega arith)
 
 pub handle-there : (o : Option (Option ℕ)) → is_some (elim o [ None ↦ None | Some x ↦ x ]) ≡ true → (k : ℕ) × (o ≡ Some (Some k))
 handle-there None e = absurd (true_false (sym e))

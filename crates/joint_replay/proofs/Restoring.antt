@@ -9,15 +9,12 @@ use Rattle.joint_machine.specs.Heaps.{IsMade, numbered_at}
 use Rattle.joint_machine.specs.Joint.{Joint}
 use Rattle.joint_machine.specs.Managed.{Managed, OpenCycle, handle_of}
 use Rattle.joint_machine.specs.Peers.{peer_of}
-use Rattle.joint_machine.specs.Run.{JointRestore, joint_restored, is_that_handle}
+use Rattle.joint_machine.specs.Run.{JointRestore, is_that_handle}
 use Rattle.joint_machine.proofs.Deciding.{none_some, some-same}
 use Rattle.joint_machine.proofs.HeapLemmas.{Holds-handle_of}
 use Rattle.joint_machine.proofs.Members.{Contains-here, Contains-there}
-use Rattle.joint_replay.specs.declared.state.Verdict.{Verdict}
-use Rattle.joint_replay.specs.Judging.{Decides, Gives}
 use Rattle.joint_replay.specs.Snaps.{HasCandidate, MayRestore}
 use Rattle.joint_replay.proofs.Snapping.{holds-made}
-use Rattle.joint_replay.proofs.Verdicts.{Decides-as}
 
 that-handle : (o : Option ℕ) (h : ℕ) → is_that_handle o h ≡ true → o ≡ Some h
 that-handle None h e = absurd (false≢true e)
@@ -56,26 +53,3 @@ pub may-restore : (j : Joint) (h : ℕ) (o : Option ℕ) → HasCandidate j.grap
     → MatchOption o ((reply : Reply) → (next : Joint) → JointRestore j h reply next → ⊥) (λ p. MayRestore j h p)
 may-restore j h None w k e = λ reply next y. none_some y.peer (e ∙ y.leads)
 may-restore j h (Some p) w k e = record { candidate = w; kept = k; leads = sym e }
-
--- a verdict on the answer is one on the step
-pub restored-decided : (j : Joint) (h p : ℕ) (reply : Reply) (d : Verdict) (new : Joint) → MayRestore j h p
-    → Decides (Gives (joint_restored j h p) reply) d j new → Decides (JointRestore j h reply) d j new
-restored-decided j h p reply d new m = Decides-as (Gives (joint_restored j h p) reply) (JointRestore j h reply) to from d j new
-  where
-    to : (n : Joint) → Gives (joint_restored j h p) reply n → JointRestore j h reply n
-    to n x = record {
-      cycle = m.candidate.0;
-      open_cycle = m.candidate.1;
-      row = m.candidate.2.0;
-      candidate = m.candidate.2.1;
-      holds = m.candidate.2.2;
-      kept = m.kept;
-      peer = p;
-      leads = m.leads;
-      replies = x.replies;
-      state = x.state;
-    }
-
-    from : (n : Joint) → JointRestore j h reply n → Gives (joint_restored j h p) reply n
-    from n y = (let same : y.peer ≡ p = some-same y.peer p (sym y.leads ∙ m.leads) in
-        record { replies = subst (λ z. reply ≡ (joint_restored j h z).reply) same y.replies; state = subst (λ z. n ≡ (joint_restored j h z).state) same y.state })

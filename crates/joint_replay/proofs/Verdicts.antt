@@ -16,9 +16,8 @@ use Rattle.joint_machine.specs.declared.events.Reply.{Reply}
 use Rattle.joint_machine.specs.declared.events.Entry.{Entry}
 use Rattle.joint_machine.specs.Heaps.{Answered}
 use Rattle.joint_machine.specs.Histories.{Finished}
-use Rattle.joint_machine.specs.Joint.{Joint, JointMarking, with_managed}
+use Rattle.joint_machine.specs.Joint.{Joint, JointMarking}
 use Rattle.joint_machine.specs.Lines.{IsEvent, is_read}
-use Rattle.joint_machine.specs.Managed.{Managed}
 use Rattle.joint_machine.specs.Run.{JointEvent, JointComputed, JointAbandon, JointSnap, JointBegin, JointSweep, JointRestore, JointResolve, joint_answer, joint_line, is_joint}
 use Rattle.joint_machine.specs.Readers.{is_set_aside}
 use Rattle.joint_machine.specs.Told.{Told, nothing, snap_of, contraction_of, references_of, slice_of, sweep_of, resolution_of, phase_of, kept_pins}
@@ -174,12 +173,6 @@ pub judged-sweep : (h : Finished) (e : Entry) (j : Joint) → e.made.op ≡ op.S
 judged-sweep h e j same event = judged h e j op.Sweep _ same event
     (λ n s. sweep-from h e.made.caller e.made.reply j n j.marking s.told s.named s.step)
     (λ n s. record { told = sweep_of (named_peers h e.made.reply); named = refl; step = s })
-
--- a verdict on the managed part, as one on the joint state
-pub Decides-managed : (j : Joint) (p : Managed → Type 0) (q : Joint → Type 0) → ((m : Managed) → p m → q (with_managed j m))
-    → ((n : Joint) → q n → (m : Managed) × p m) → (d : Verdict) (m : Managed) → Decides p d j.graph.managed m → Decides q d j (with_managed j m)
-Decides-managed j p q to from Lawful m x = to m x
-Decides-managed j p q to from Unlawful m x = (λ n s. (let r = from n s in x.0 r.0 r.1), ap (λ (z : Managed). with_managed j z) x.1)
 
 -- a read that is set aside is no step, and every other entry is one where it is one of the machine in which reads are
 -- as all others are

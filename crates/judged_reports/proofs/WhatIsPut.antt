@@ -1,28 +1,11 @@
 -- What is put of a report, and that a report within the limit isn't refused.
 use Rattle.std.proofs.Common.{◌≡◌, ℕ, ◌+◌, ◌≤◌, inl, inr, List, ◌++◌, length, Option, Some, None, refl, sym, ap, subst, ◌∙◌, arith, append-nil, length-append}
-use Rattle.bridge_script.specs.declared.faults.Cause.TheVariants.{Bytes}
-use Rattle.bridge_script.specs.Causes.{fault_text}
 use Rattle.joint_machine.specs.Histories.{Finished}
 use Rattle.byte_streams.specs.Reading.{Took}
-use Rattle.report_reader.specs.declared.faults.ReportFault.{ReportFault}
 use Rattle.report_reader.specs.Reading.{IsReadAs}
 use Rattle.limited_reports.specs.declared.limits.TakeError.{TakeError}
 use Rattle.limited_reports.specs.declared.limits.TakeError.TheVariants.{OutOfMemory, ReadFault, Refused, Long}
 use Rattle.limited_reports.specs.Limits.{IsNoneWithin, TookWrong}
-use Rattle.report_answers.specs.Answers.{finding_text, refusal_text}
-use Rattle.judged_reports.specs.declared.judging.Judged.{Judged}
-use Rattle.judged_reports.specs.Judging.{JudgedReport}
-use Rattle.judged_reports.specs.Answering.{FindingPut, RefusalPut}
-
-module _ (most : ℕ) (left rest : Option (List ℕ)) (Put : List ℕ → Type 0) where
-  pub found_so : (j : Judged) → JudgedReport most left rest j → Put (finding_text j.count j.finding) → FindingPut most left rest Put
-  found_so j r p = record { judged = j; report = r; text = p }
-
-  pub fault_so : (fault : ReportFault) → TookWrong most left rest (Refused fault) → Put (refusal_text fault) → RefusalPut most left rest Put
-  fault_so fault w p = record { error = Refused fault; took = w; refusal = record { answer = refusal_text fault; names = refl; text = p } }
-
-  pub long_so : (line : ℕ) → TookWrong most left rest (Long line) → Put (fault_text (record { line = line; cause = Bytes })) → RefusalPut most left rest Put
-  long_so line w p = record { error = Long line; took = w; refusal = record { answer = fault_text (record { line = line; cause = Bytes }); names = refl; text = p } }
 
 -- all of a source that has no more than the limit was taken
 all-taken : (most : ℕ) (left rest : Option (List ℕ)) (input bytes : List ℕ) → left ≡ Some input → length input ≤ most → Took most left rest bytes → bytes ≡ input

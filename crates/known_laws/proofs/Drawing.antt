@@ -5,7 +5,7 @@
 use Rattle.std.proofs.Common.{◌≡◌, inl, ⊎_elim, ℕ, Bool, true, false, List, [], ◌∷◌, ◌++◌, map, Option, None, refl, sym, ap, ◌∙◌, subst, true≢false}
 use Rattle.std.specs.Prelude.{Contains, if◌then◌else◌}
 use mathlib.Core.List.{IsPrefix}
-use Rattle.std.proofs.lemmas.List.{map-append, append-nil}
+use Rattle.std.proofs.lemmas.List.{append-nil}
 use Rattle.std.proofs.lemmas.List.Elements.{Contains-append_cases}
 use Rattle.joint_machine.specs.declared.names.Thread.{Thread}
 use Rattle.joint_machine.specs.declared.names.Thread.TheVariants.{M, P, C}
@@ -28,8 +28,8 @@ use Rattle.known_laws.specs.Known.{Comes, given, managed_past}
 use Rattle.known_laws.proofs.Pinned.{kept_pinned}
 use Rattle.known_laws.specs.Pasts.{Lawful, Within, end_of, is_in}
 use Rattle.known_laws.specs.PastEntries.{InPast}
-use Rattle.known_laws.specs.Growing.{kept_in, AreJoined, HasGrown, grown, untold}
-use Rattle.known_laws.specs.Drawn.{KeptDrawn, kept_drawn, drawn_by, drawn, IsToldIn, of_drawn, AreDrawn, NothingIsDrawn, DrawnIsOne, drawn_on, DrawnLinesGrow, DrawnLinesJoin, FreedIsDrawn}
+use Rattle.known_laws.specs.Growing.{kept_in, AreJoined, HasGrown, untold}
+use Rattle.known_laws.specs.Drawn.{KeptDrawn, kept_drawn, drawn_by, drawn, IsToldIn, of_drawn, AreDrawn, NothingIsDrawn, DrawnIsOne, DrawnLinesGrow, DrawnLinesJoin, FreedIsDrawn}
 use Rattle.known_laws.proofs.CitedOnce.{each_stands_behind}
 use Rattle.known_laws.proofs.FrozenPasts.{goes_on, one_behind}
 use Rattle.known_laws.proofs.Growing.{nothing_is_known, one_run, known_lines_grow, known_lines_join}
@@ -105,13 +105,6 @@ drawn_told s n x e = by (is_peer_event n.entry.made.caller n.entry.made.op)
         ≡ (if c then drawn_by peer_rules s.peer n else drawn_by managed_rules s.managed n)
     by true = refl
     by false = λ i. record { entry = n.entry; target = managed_rules.target s.managed n.entry.made; freed = e i }
-
-pub of_drawn_on : (lines : ℕ → List KeptDrawn) (d : KeptDrawn) (i : ℕ) → of_drawn (drawn_on lines d i) ≡ grown (λ j. of_drawn (lines j)) (record { entry = d.drawn.entry; pins = d.pins }) i
-of_drawn_on lines d i = by (is_in i (untold record { entry = d.drawn.entry; pins = d.pins }))
-  where
-    by : (b : Bool) → of_drawn (if b then lines i ++ d ∷ [] else lines i) ≡ (if b then of_drawn (lines i) ++ record { entry = d.drawn.entry; pins = d.pins } ∷ [] else of_drawn (lines i))
-    by true = map-append (λ (z : KeptDrawn). record { entry = z.drawn.entry; pins = z.pins }) (lines i) (d ∷ [])
-    by false = refl
 
 pub drawn_lines_grow : DrawnLinesGrow
 drawn_lines_grow lines k n below may = record {

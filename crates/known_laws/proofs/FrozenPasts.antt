@@ -34,7 +34,7 @@ use Rattle.joint_laws.proofs.ManagedSteps.{meet_by-managed, give_by-managed, twi
 use Rattle.joint_laws.proofs.DriverPeerSteps.{holds-handle_of}
 use Rattle.joint_laws.proofs.SameGraphs.{contraction-same}
 use Rattle.joint_laws.proofs.Mirrors.{edge-ends, IsEnd}
-use Rattle.known_laws.specs.Pasts.{role_of, is_in, line, of_line, end_of, Lawful, Within, HasSameDeadPart, IsSameForDriver, IsFrozenIn, KnownPastsJoin, EntryMayMove, driver_line}
+use Rattle.known_laws.specs.Pasts.{is_in, line, of_line, end_of, Lawful, Within, HasSameDeadPart, IsSameForDriver, IsFrozenIn, KnownPastsJoin, EntryMayMove, driver_line}
 use Rattle.joint_machine.specs.HistoryLines.{caller_line}
 use Rattle.known_laws.proofs.PastLines.{off, in_role, in_own, line_in, line_out, snoc_same, snoc_some, shorter_begins}
 use Rattle.joint_machine.specs.PinsTold.{bare_told, with_pins}
@@ -113,10 +113,6 @@ alike_on s u t k g (open_one c a b h) = open_one c (g.cycle ∙ a) b
 pub alike_pinned : (s : ManagedReplay) (t : Managed) (p : List (Option ℕ)) → Alike s.managed t → Alike (with_pins s p).managed t
 alike_pinned s t p (closed a b) = closed a b
 alike_pinned s t p (open_one c a b h) = open_one c a b h
-
-pub alike_bare : (s : ManagedReplay) (t : Managed) (p : List (Option ℕ)) → Alike (with_pins s p).managed t → Alike s.managed t
-alike_bare s t p (closed a b) = closed a b
-alike_bare s t p (open_one c a b h) = open_one c a b h
 
 -- an entry of a side's list that goes on, in the state with the pins that are told
 pub alike_goes : (s : Linkage) (x : Noted) (t : Managed) → Of s → is_read x.entry.made.op ≡ false → SideMayCome s x

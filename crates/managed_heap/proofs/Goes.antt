@@ -228,15 +228,6 @@ line-answers old new t a r hs is rest = ap (λ x. plainly (with_adopted old hs) 
 pub same-answers : (old : ManagedReplay) (r said : Reply) (hs : List ℕ) → said ≡ r → answer said (with_adopted old hs) ≡ answer r (with_adopted old (hs ++ []))
 same-answers old r said hs is = ap (λ z. answer z (with_adopted old hs)) is ∙ ap (λ z. answer r (with_adopted old z)) (sym (append-nil hs))
 
--- a cell that may be set by the rows may be set whatever handles were adopted
-pub may-set : (s : ManagedReplay) (hs : List ℕ) (o : Op) (m : MNum) → MaySetCell s o m → MaySetCell (with_adopted s hs) o m
-may-set s hs (op.Line a) m w = line a w
-  where
-    line : (a : Act) → MaySetCell s (op.Line a) m → MaySetCell (with_adopted s hs) (op.Line a) m
-    line (act.Weak k v) w = w
-    line _ w = w
-may-set s hs _ m w = w
-
 -- the caller may draw for the event, also with an object to which it may set a cell
 pub may-target : {D : Type 0} (d : Drawing D) (draw : D) (s : ManagedReplay) (t : Thread) (o : Op) (m : Option MNum) → d.may draw t o None
     → ((x : MNum) → MaySetCell s o x → d.may draw t o (Some x)) → ((x : MNum) → m ≡ Some x → MaySetCell s o x) → d.may draw t o m

@@ -48,20 +48,5 @@ pub target-may : (r : ManagedReplay) (k : Cell) (v : Var) (m : Option MNum) → 
 target-may r k v None unset live x e = (let f : ⊥ = cc in absurd f)
 target-may r k v (Some y) unset live x e = (unset, subst (λ (o : Option MNum). IfSome o (λ z. IsLive r.managed.heap z.0)) e live)
 
--- the answer by the word
-pub set-unset : (s : Managed) (k x w : ℕ) → (w ≡ 0 → slot s.cells k ≡ None) → w ≡ 0 → cell_set s k x (slot s.cells k) ≡ cell_set s k x None
-set-unset s k x w word z = ap (λ o. cell_set s k x o) (word z)
-
 pub set-taken : (s : Managed) (k x w : ℕ) → (slot s.cells k ≡ None → w ≡ 0) → (w ≡ 0 → ⊥) → cell_set s k x (slot s.cells k) ≡ answer says.Taken s
 set-taken s k x w word set = none-or (slot s.cells k) (cell_set s k x (slot s.cells k) ≡ answer says.Taken s) (λ e. absurd (set (word e))) (λ y e. ap (λ o. cell_set s k x o) e)
-
--- the target by the word
-pub target-set : (o y : Option ℕ) (w x : ℕ) → (w ≡ 0 → y ≡ None) → w ≡ 0 → o ≡ Some x → unset_target y o ≡ Some record { 0 = x }
-target-set o y w x word z e = ap (λ p. unset_target p o) (word z) ∙ ap object_or_none e
-
-pub target-taken : (o y : Option ℕ) (w : ℕ) → (y ≡ None → w ≡ 0) → (w ≡ 0 → ⊥) → unset_target y o ≡ None
-target-taken o y w word set = none-or y (unset_target y o ≡ None) (λ e. absurd (set (word e))) (λ z e. ap (λ p. unset_target p o) e)
-
-pub target-none : (o y : Option ℕ) → o ≡ None → unset_target y o ≡ None
-target-none o None e = ap object_or_none e
-target-none o (Some y) e = refl

@@ -67,7 +67,3 @@ scans_kept r n v holding paid = ap (λ (u : View). u.scanned) (ap (λ b. if b th
   where
     test : (nat_lt 0 v.holds && owes_none v) ≡ true
     test = ap (λ (z : Bool × Bool × Bool × Bool). z.0 && (z.1 && (z.2 && z.3))) (λ i. (is_lt 0 v.holds holding i, none_owed v.debts paid.0 i, eq-eqb v.fill 0 paid.1 i, eq-eqb v.empty 0 paid.2 i))
-
--- what stays owes no more
-pub owes_stays : (v w : View) → StaysAs v w → OwesNone v → OwesNone w
-owes_stays v w s paid = ((λ c. ap (λ ds. at false ds c) s.debts ∙ paid.0 c), s.fill ∙ paid.1, s.empty ∙ paid.2)

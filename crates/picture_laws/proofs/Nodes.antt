@@ -68,10 +68,6 @@ module _ {A : Type 0} (a b c d e f : List A) (x : A) where
   in5 h = Contains-append_right a (b ++ (c ++ (d ++ (e ++ f)))) x
       (Contains-append_right b (c ++ (d ++ (e ++ f))) x (Contains-append_right c (d ++ (e ++ f)) x (Contains-append_right d (e ++ f) x (Contains-append_left e (f) x h))))
 
-  pub in6 : Contains f x → Contains (a ++ (b ++ (c ++ (d ++ (e ++ f))))) x
-  in6 h = Contains-append_right a (b ++ (c ++ (d ++ (e ++ f)))) x
-      (Contains-append_right b (c ++ (d ++ (e ++ f))) x (Contains-append_right c (d ++ (e ++ f)) x (Contains-append_right d (e ++ f) x (Contains-append_right e (f) x h))))
-
   pub six_cases : {P : Type 0} → (Contains a x → P) → (Contains b x → P) → (Contains c x → P) → (Contains d x → P)
       → (Contains e x → P) → (Contains f x → P) → Contains (a ++ (b ++ (c ++ (d ++ (e ++ f))))) x → P
   six_cases p1 p2 p3 p4 p5 p6 h0 = elim (Contains-append_cases a (b ++ (c ++ (d ++ (e ++ f)))) x h0) [

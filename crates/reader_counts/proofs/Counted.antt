@@ -3,7 +3,7 @@ use Rattle.std.proofs.Common.{◌≡◌, inl, inr, ℕ, zero, suc, ◌+◌, ◌-
 use Rattle.std.proofs.Common.{ne_eqb, if◌then◌else◌}
 use Rattle.std.specs.Prelude.{◌↔◌, nat_eq, slice_get, slice_set, slice_index, is_some}
 use Rattle.std.proofs.Math.ListN.{length-set}
-use Rattle.std.proofs.lemmas.Bool.{cases_eq, eqb-true}
+use Rattle.std.proofs.lemmas.Bool.{cases_eq}
 use Rattle.std.proofs.lemmas.List.{get_or-replicate, get_or-set_same, get_or-set_other}
 use Rattle.joint_machine.specs.declared.names.Cycle.{Cycle}
 use Rattle.joint_machine.specs.declared.names.Thread.{Thread}
@@ -104,12 +104,6 @@ seen-go seen_list past n m long th e t tt' old = by (is_thread n.entry.made.call
 -- the cells
 abbrev cell_in : List (Option CellSet) → ℕ → Option CellSet
 cell_in cells k = elim (slice_get cells k) [ None ↦ None | Some o ↦ o ]
-
-event-cell : (t : Thread) (o : Op) → IsEvent t o → (k : ℕ) → sets_cell o says.Ok k ≡ true → k < 64
-event-cell (M n) (op.Line (act.Weak c v)) e k q = (let low = e.0.1.0 in let same = eqb-true c.0 k q in omega (arith, low, same))
-event-cell (P n) (op.Line (act.Weak c v)) e k q = absurd e.0.1
-event-cell C (op.Line (act.Weak c v)) e k q = absurd e.0
-event-cell t o e k q = absurd (let f : false ≡ true = q in cc)
 
 cells-go : (cells : List (Option CellSet)) (t : Thread) (m : ℕ) (o : Op) (r : Reply) (k : ℕ) (w : Option Setting) → length cells ≡ 64 → k < 64 → cell_in cells k ≡ kept_setting w
     → cell_in (cells_after cells m t o r) k ≡ kept_setting (if sets_cell o r k then Some record { caller = t; count = m } else w)

@@ -1,29 +1,17 @@
 -- Where a line stands that is refused, and why it is.
-use Rattle.std.proofs.Common.{◌≡◌, ◌≢◌, ℕ, zero, suc, ◌+◌, ◌-◌, ◌<◌, ◌^◌, ◌⊎◌, inl, inr, true, false, List, [], ◌∷◌, ◌++◌, get_or, length, take, drop, All, codes, decimal, refl, sym, ap, ◌∙◌, subst}
+use Rattle.std.proofs.Common.{◌≡◌, ◌≢◌, ℕ, zero, suc, ◌+◌, ◌-◌, ◌<◌, ◌^◌, ◌⊎◌, inl, inr, true, false, List, [], ◌∷◌, ◌++◌, get_or, length, take, All, codes, decimal, refl, sym, ap, ◌∙◌}
 use Rattle.std.proofs.Common.{arith, append_assoc, true≢false}
 use Rattle.std.specs.Prelude.{nat_eq}
 use Rattle.std.proofs.lemmas.List.{take_all, append_cancel_right}
 use Rattle.std.proofs.lemmas.List.Elements.{All-cons, All-nil}
 use Rattle.std.proofs.lemmas.Bool.Decides.{eqb_tells}
 use Rattle.joint_machine.specs.declared.events.Entry.{Entry}
-use Rattle.byte_streams.proofs.Bytes.{rest_of}
-use Rattle.text_words.proofs.Cuts.{cut_at, free_before}
 use Rattle.history_report.specs.Report.{end_text}
 use Rattle.entry_reader.specs.Saying.{IsLineOf}
 use Rattle.report_reader.specs.declared.faults.ReportCause.TheVariants as cause
 use Rattle.report_reader.specs.Faults.{IsEntryText, IsEndText, Placed, IsFaultHere}
 use Rattle.report_reader.specs.Steps.{IsMisformed, StopsAt}
 use Rattle.report_reader.proofs.Texts.{not_last}
-
--- no newline up to the end, and a newline at the place that was found
-pub none_within : (bytes : List ℕ) (n : ℕ) → n ≡ length bytes → ((k : ℕ) → k < n → get_or bytes k 0 ≡ 10 → ⊥) → All (λ b. b ≢ 10) bytes
-none_within bytes n e before =
-    let all = free_before 10 n bytes (omega arith) before in
-    let F : List ℕ → Type 0 = λ z. All (λ b. b ≢ 10) z in
-    subst F (take_all n bytes (omega arith)) all
-
-pub cut_first : (bytes : List ℕ) (n : ℕ) → n < length bytes → (n < length bytes → get_or bytes n 0 ≡ 10) → bytes ≡ take n bytes ++ (10 ∷ take (length bytes - (n + 1)) (drop (n + 1) bytes))
-cut_first bytes n l found = rw (rest_of (n + 1) bytes) (cut_at 10 n bytes l (found l))
 
 -- a line, its newline, and what stands behind it
 abbrev closed : List ℕ → ℕ → Placed
@@ -135,10 +123,6 @@ behind_end before bytes some = elim (cut_or_none bytes) [
     has = inl refl;
   }
 ]
-
--- the whole of the last line
-pub whole_end : (bytes text left : List ℕ) (n : ℕ) → bytes ≡ text ++ (10 ∷ left) → IsEnd text n → bytes ≡ end_text n ++ left
-whole_end bytes text left n cut e = cut ∙ (sym (append_assoc text (10 ∷ []) left) ∙ ap (λ z. z ++ left) (end_is n text e))
 
 -- what the tests of the code say
 pub not_empty : (n : ℕ) → false ≡ nat_eq n 0 → 0 < n

@@ -1,29 +1,26 @@
 -- The check of a whole history: the past so far with the entries that are left, and what is found.
-use Rattle.std.proofs.Common.{◌≡◌, ℕ, ◌+◌, ◌<◌, ◌^◌, ◌↔◌, inl, inr, List, [], ◌∷◌, ◌++◌, length, take, Some, None, refl, sym, ap, ◌∙◌, subst, arith, append_assoc}
-use Rattle.std.specs.Prelude.{IfOk, Option, Result, Ok, Err, slice_get}
+use Rattle.std.proofs.Common.{◌≡◌, ℕ, ◌+◌, ◌<◌, ◌^◌, ◌↔◌, List, [], ◌∷◌, ◌++◌, length, take, Some, refl, sym, ap, ◌∙◌, subst, arith, append_assoc}
+use Rattle.std.specs.Prelude.{slice_get}
 use Rattle.std.proofs.lemmas.List.{append-nil}
 use Rattle.std.proofs.Math.Seq.{take-append_seam}
 use Rattle.joint_machine.specs.declared.events.Entry.{Entry}
 use Rattle.joint_machine.specs.Histories.{Finished, NumberedFrom}
-use Rattle.joint_machine.specs.Lines.{IsNamed}
 use Rattle.joint_machine.specs.LinkedHistories.{IsLinked}
 use Rattle.joint_machine.specs.Told.{Noted}
 use Rattle.known_laws.specs.PastEntries.{entries}
 use Rattle.check_laws.specs.declared.findings.Finding.{Finding}
 use Rattle.check_laws.specs.declared.findings.Finding.TheVariants as finding
 use Rattle.check_laws.specs.declared.findings.Why.{Why}
-use Rattle.check_laws.specs.declared.findings.Why.TheVariants as why
 use Rattle.check_laws.specs.Behind.{in_turn}
 use Rattle.check_laws.specs.Found.{as_named}
-use Rattle.check_laws.specs.Findings.{FailsBy, HasSoundAndCompleteRun, IsAllInOrder, IsFinding, NothingFollows}
+use Rattle.check_laws.specs.Findings.{FailsBy, HasSoundAndCompleteRun, IsAllInOrder, IsFinding}
 use Rattle.check_laws.specs.Knows.{AreKnown}
-use Rattle.joint_laws.proofs.FittingLists.{named-event}
 use Rattle.check_laws.proofs.Knows.{pasts_known}
 use Rattle.check_laws.proofs.Linking.{legal_linked, linked_runs}
 use Rattle.check_laws.proofs.OneFinding.{entries-length, one_finding}
 use Rattle.run_check.specs.declared.replays.Replay.{Replay}
 use Rattle.run_check.specs.Follows.{Follows}
-use Rattle.run_check.specs.Judging.{GoesOn, GoesOnFrom, IsFoundAtEnd, IsJudged, IsThrough, IsWalked, JudgesRightly}
+use Rattle.run_check.specs.Judging.{GoesOn, IsFoundAtEnd, IsJudged, IsThrough, IsWalked}
 use Rattle.run_check.proofs.Pasts.{numbers-more, turn-more}
 
 -- the entry that comes with a number
@@ -34,14 +31,6 @@ module _ (h : Finished) (e : Entry) (old : Replay) (n : ℕ) where
     follows = w.follows;
     number = is ∙ sym w.place;
   }
-
-  pub judged-from : {E : Type 0} (new : Replay) → e.number ≡ n → n < 2 ^ 62 → (r : Result (Option Why) E) → IfOk r (λ y. JudgesRightly h e old new y) → IfOk r (λ y. GoesOnFrom h e old new n y)
-  judged-from new is low (Ok None) j = (is, low, λ past w. j past (judged is low past w))
-  judged-from new is low (Ok (Some y)) j = λ past w. j past (judged is low past w)
-  judged-from new is low (Err f) j = tt
-
-  pub unnamed-fails : (new : Replay) → (IsNamed e.made.caller e.made.op → ⊥) → GoesOnFrom h e old new n (Some why.Caller)
-  unnamed-fails new deny past w t = deny (named-event e.made.caller e.made.op t.event)
 
 -- so far a past is in order, which a replay follows, and these entries are left
 pub record IsChecked (h : Finished) (r : Replay) (n : ℕ) (left : List Entry) : Type 0 where

@@ -1,6 +1,6 @@
 -- A contract: the graph that is kept is the dead part's, so its contraction is the dead part's, by the nodes' numbers.
 -- It may come exactly where it names the driver's cycle and answers how many components and cross-references there are.
-use Rattle.std.proofs.Common.{◌≡◌, ℕ, ◌+◌, Bool, true, false, List, [], ◌∷◌, length, map, Option, Some, None, refl, sym, ap, ◌∙◌, subst, arith}
+use Rattle.std.proofs.Common.{◌≡◌, ℕ, ◌+◌, Bool, true, List, [], ◌∷◌, length, map, Some, None, refl, sym, ap, ◌∙◌, subst, arith}
 use Rattle.std.proofs.lemmas.List.{length-map}
 use Rattle.std.proofs.lemmas.Option.{same_Some}
 use Rattle.joint_machine.specs.declared.names.Cycle.{Cycle}
@@ -16,14 +16,13 @@ use Rattle.joint_machine.specs.Cycles.{IsDeadContraction}
 use Rattle.joint_machine.specs.Histories.{Finished, managed_numbers, peer_numbers}
 use Rattle.joint_machine.specs.Linked.{Linkage}
 use Rattle.joint_model.specs.Listed.{answers_of}
-use Rattle.joint_machine.specs.Managed.{Managed, OpenCycle, candidates_of}
+use Rattle.joint_machine.specs.Managed.{OpenCycle, candidates_of}
 use Rattle.joint_machine.specs.ManagedReplay.{ManagedReplay, MayContract}
 use Rattle.joint_machine.specs.Sides.{AddsLawful, managed_rules, step_made}
 use Rattle.joint_machine.specs.Told.{Noted, Told, contraction_of}
 use Rattle.joint_machine.specs.PinsTold.{no_pins, with_pins}
 use Rattle.joint_laws.specs.LinkedInvariants.{given_at}
 use Rattle.joint_laws.specs.Spans.{TellsNamed}
-use Rattle.known_laws.specs.Driving.{PastInvariant}
 use Rattle.known_laws.specs.Known.{pinned}
 use Rattle.known_laws.proofs.Conditions.{snapped_may_be_contracted}
 use Rattle.known_laws.proofs.Pinned.{contraction_to}
@@ -32,20 +31,20 @@ use Rattle.check_laws.specs.Order.{ContractData, ContractTurn}
 use Rattle.bridge_graph.specs.Parts.{IsBridgeNode, NodeLeads}
 use Rattle.xref_list.specs.Listing.{IsListing, Listing}
 use Rattle.caller_turns.specs.Shapes.{next_place}
-use Rattle.managed_heap.specs.Calls.{Contracts, IsContractedBy, MayContractWith, contract_made}
+use Rattle.managed_heap.specs.Calls.{Contracts, IsContractedBy, MayContractWith}
 use Rattle.managed_heap.specs.Graphs.{IsDeadGraph}
 use Rattle.managed_heap.specs.Sides.{ManagedModel, as_side}
 use Rattle.run_check.specs.declared.cycles.OpenCycle.{OpenCycle as Kept}
 use Rattle.run_check.specs.declared.draws.Recorder.{Recorder}
 use Rattle.run_check.specs.declared.replays.Replay.{Replay}
 use Rattle.dead_parts.specs.Graphs.{number_at, numbered_comps}
-use Rattle.run_check.specs.Cycles.{CycleFollows, HasCycle, HasListing, IsAtHandle, IsOpenHere}
+use Rattle.run_check.specs.Cycles.{CycleFollows, HasCycle, IsAtHandle, IsOpenHere}
 use Rattle.run_check.specs.Follows.{LeftFits}
-use Rattle.run_check.specs.Judging.{MayNotReply, MayReply, next_noted}
+use Rattle.run_check.specs.Judging.{MayReply, next_noted}
 use Rattle.dead_parts.proofs.DeadContraction.{a_graphs_contraction}
 use Rattle.run_check.proofs.Drawing.{counted, drawing}
 use Rattle.run_check.proofs.Longer.{control-next, managed-longer, managed-next, peers-longer, stores-longer}
-use Rattle.run_check.proofs.OneReply.{HasMade, IsSame, Judges, replies_by}
+use Rattle.run_check.proofs.OneReply.{HasMade, Judges, replies_by}
 use Rattle.run_check.proofs.OwnEntries.{IsMadeIn, plain-made}
 use Rattle.run_check.proofs.PastFacts.{past_kept, replay_kept}
 
@@ -83,19 +82,12 @@ module _ (h : Finished) (past : List Noted) (old : Replay) (k : Cycle) (index : 
   abbrev s : Linkage
   s = state_of past
 
-  pub contract_some : old.cycle ≡ None → ⊥
-  contract_some e = subst ContractTurn (subst (CycleFollows s) e may.sides.cycle) may.next.turn.turn
-
   module _ (o : Kept) (is : old.cycle ≡ Some o) where
     here : IsOpenHere s o
     here = subst (CycleFollows s) is may.sides.cycle
 
     now : IsSnapped s o
     now = snapped_now s o may.next.turn.turn here.stands
-
-    -- no other cycle is contracted
-    pub contract_other : (o.cycle.0 ≡ k.0 → ⊥) → MayNotReply h past (contracting k index reply)
-    contract_other differ u q = differ (now.names ∙ subst (λ st. ContractData st k.0) now.stood q.replies.driven)
 
     module _ (l : Listing) (sccs xrefs : ℕ) (w : HasContracted o l sccs xrefs) where
       abbrev comps : List (List ℕ)

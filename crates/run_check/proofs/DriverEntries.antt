@@ -11,7 +11,7 @@ use Rattle.joint_machine.specs.Histories.{Finished}
 use Rattle.joint_machine.specs.Lines.{IsDriver, is_peer_event, is_read}
 use Rattle.joint_machine.specs.Linked.{Linkage}
 use Rattle.joint_machine.specs.Managed.{candidates_of}
-use Rattle.joint_machine.specs.Sides.{AddsLawful, MayDraw, peer_rules}
+use Rattle.joint_machine.specs.Sides.{AddsLawful, peer_rules}
 use Rattle.joint_machine.specs.Told.{Noted, Told}
 use Rattle.joint_laws.proofs.SpansTold.{HasSpan}
 use Rattle.check_laws.specs.Behind.{NamesSo, RepliesBehind, state_of}
@@ -24,7 +24,7 @@ use Rattle.run_check.specs.Follows.{LeftFits}
 use Rattle.run_check.specs.Judging.{MayNotReply, MayReply, Replied, next_noted}
 use Rattle.run_check.proofs.Opened.{reserved-on}
 use Rattle.run_check.proofs.Drawing.{drawing}
-use Rattle.run_check.proofs.PeerEntries.{Keeps, control_is, managed_is, may_draw, names_none, one, right, wrong}
+use Rattle.run_check.proofs.PeerEntries.{Keeps, control_is, managed_is, names_none, one, right, wrong}
 
 pub driver-is : (t : Thread) → IsDriver t → t ≡ C
 driver-is C d = refl
@@ -48,9 +48,6 @@ module _ (h : Finished) (past : List Noted) (m : Made) (old : Replay) (ready : M
   module _ (on_peers : is_peer_event C o ≡ true) where
     peer : is_peer_event m.caller m.op ≡ true
     peer = ap (λ t. is_peer_event t m.op) driver ∙ (ap (λ x. is_peer_event C x) is ∙ on_peers)
-
-    pub driver-draws : MayDraw peer_rules drawing old.draw (seen old.peers) C o
-    driver-draws = may_draw h past m old ready peer C o tt
 
     module _ (reply : Reply) (told : Told) (new : Replay) (cites : Option ℕ) (cited : m.cites ≡ cites)
         (adds : AddsLawful peer_rules drawing old.draw new.draw (seen old.peers) (seen new.peers) (driver-made m.index o reply cites) told) (none : IsNoRefusal o)

@@ -13,16 +13,10 @@ use Rattle.run_check.specs.Cycles.{IsAtHandle}
 pub handle-is : (nodes : List Node) (i : ℕ) (o : Option HNum) → HasNode nodes i (λ n. n.handle ≡ o) → handle_at nodes i ≡ o
 handle-is nodes i o at = ap (option_and_then (λ (n : Node). n.handle)) at.1 ∙ at.2
 
-pub handle-some : (nodes : List Node) (i : ℕ) (h : HNum) → HasNode nodes i (λ n. n.handle ≡ Some h) → IsSome (handle_at nodes i)
-handle-some nodes i h at = subst IsSome (sym (handle-is nodes i (Some h) at)) refl
-
 past-none : (nodes : List Node) (i : ℕ) → length nodes ≤ i → handle_at nodes i ≡ None
 past-none [] i l = refl
 past-none (n ∷ nodes) zero l = absurd (omega (arith, l))
 past-none (n ∷ nodes) (suc i) l = past-none nodes i (omega (arith, l))
-
-pub behind-none : (nodes : List Node) (i : ℕ) → (i < length nodes → ⊥) → None ≡ handle_at nodes i
-behind-none nodes i n = sym (past-none nodes i (⊎_elim (λ l. absurd (n l)) (λ b. b) (cases_lt i (length nodes))))
 
 -- what is in the graph's last place, or behind it
 drop-all : {X : Type 0} (xs : List X) (i : ℕ) → length xs ≤ i → drop i xs ≡ []

@@ -1,7 +1,7 @@
 -- A snap: the driver is idle, so no cycle is open; the pins that are given are the state's, which stand. It may come
 -- exactly where it names the next cycle, counts its candidates and names what is freed; the dead part's graph is kept
 -- from then on.
-use Rattle.std.proofs.Common.{◌≡◌, ℕ, suc, ◌+◌, Bool, true, false, List, [], ◌∷◌, ◌++◌, length, Option, Some, None, refl, sym, ap, ◌∙◌, subst, arith}
+use Rattle.std.proofs.Common.{◌≡◌, ℕ, suc, ◌+◌, Bool, true, List, [], ◌∷◌, ◌++◌, length, Option, Some, None, refl, sym, ap, ◌∙◌, subst, arith}
 use Rattle.joint_machine.specs.declared.names.Cycle.{Cycle}
 use Rattle.joint_machine.specs.declared.names.Span.{Span}
 use Rattle.joint_machine.specs.declared.names.Thread.TheVariants.{C}
@@ -15,15 +15,14 @@ use Rattle.joint_machine.specs.Draws.{AllBelow}
 use Rattle.joint_machine.specs.Histories.{Finished, managed_numbers, peer_numbers}
 use Rattle.joint_machine.specs.Linked.{Linkage}
 use Rattle.joint_model.specs.Listed.{answers_of}
-use Rattle.joint_machine.specs.Managed.{Managed, OpenCycle, candidates_of}
-use Rattle.joint_machine.specs.ManagedReplay.{ManagedAllows, ManagedReplay}
+use Rattle.joint_machine.specs.Managed.{candidates_of}
+use Rattle.joint_machine.specs.ManagedReplay.{ManagedReplay}
 use Rattle.joint_machine.specs.Sides.{GoesOn, managed_rules, step_made}
 use Rattle.joint_machine.specs.Told.{Noted, Told, kept_pins, snap_of}
 use Rattle.joint_machine.specs.PinsTold.{no_pins, with_pins}
 use Rattle.joint_laws.specs.LinkedInvariants.{given_at}
 use Rattle.joint_laws.specs.Spans.{TellsNamed}
-use Rattle.known_laws.specs.Known.{PinsStand, pinned}
-use Rattle.known_laws.proofs.Conditions.{idle_is_closed}
+use Rattle.known_laws.specs.Known.{PinsStand}
 use Rattle.known_laws.proofs.Pinned.{own_stand}
 use Rattle.check_laws.specs.Behind.{state_of}
 use Rattle.check_laws.specs.Order.{SnapTurn}
@@ -38,13 +37,13 @@ use Rattle.run_check.specs.declared.readers.Readers.{Readers}
 use Rattle.run_check.specs.declared.replays.Replay.{Replay}
 use Rattle.run_check.specs.Cycles.{HasCycle, IsAtHandle, IsOpenHere}
 use Rattle.run_check.specs.Follows.{LeftFits, shown_pins}
-use Rattle.run_check.specs.Judging.{MayNotReply, MayReply, next_noted}
+use Rattle.run_check.specs.Judging.{MayReply, next_noted}
 use Rattle.run_check.specs.Lists.{StandsInList}
 use Rattle.run_check.proofs.FreedNames.{put_span, put_stands, snap_named, snap_stands, stands_put}
 use Rattle.run_check.proofs.Longer.{control-next, managed-longer, managed-next, peers-longer, stores-longer}
-use Rattle.run_check.proofs.OneReply.{HasMade, IsSame, Judges, replies_by}
+use Rattle.run_check.proofs.OneReply.{HasMade, Judges, replies_by}
 use Rattle.run_check.proofs.OwnEntries.{IsMadeIn, snap-made}
-use Rattle.run_check.proofs.PastFacts.{past_kept, replay_kept}
+use Rattle.run_check.proofs.PastFacts.{replay_kept}
 use Rattle.run_check.proofs.Pins.{stand_bare}
 
 idle_now : (st : Stand) → SnapTurn st → st ≡ control.idle
@@ -55,11 +54,6 @@ idle_now (control.weakening o count weakened swept) t = absurd t
 idle_now (control.marked o) t = absurd t
 idle_now (control.restoring o answers) t = absurd t
 idle_now (control.restored o answers clear) t = absurd t
-
--- what a snap asks for beside its reply
-snap_next : (s : ManagedReplay) (k : Cycle) (told : Told) → ManagedAllows s (op.Snap k) told → k.0 ≡ s.managed.cycles + 1
-snap_next s k (snap_of freed candidates dead) w = w.next
-snap_next s k _ w = absurd w
 
 -- the cycle as it is kept when it was just opened
 pub record IsJustOpened (o : Kept) (k : Cycle) (n : ℕ) (g : Part) : Type 0 where
@@ -80,9 +74,6 @@ module _ (h : Finished) (past : List Noted) (old : Replay) (k : Cycle) (index : 
   idle : s.control.stand ≡ control.idle
   idle = idle_now s.control.stand may.next.turn.turn
 
-  pub snap_shut : old.managed.state.managed.cycle ≡ None
-  snap_shut = ap (λ (z : ManagedReplay). z.managed.cycle) may.sides.managed.state ∙ idle_is_closed (pinned s no_pins) (past_kept h past may.next.so_far) idle
-
   pub snap_stands_so : PinsStand old.managed.state.managed (shown_pins old.readers.pins)
   snap_stands_so = subst (λ (z : ManagedReplay). PinsStand z.managed (shown_pins old.readers.pins)) (sym may.sides.managed.state)
       (stand_bare s.managed.managed (shown_pins old.readers.pins) no_pins
@@ -90,10 +81,6 @@ module _ (h : Finished) (past : List Noted) (old : Replay) (k : Cycle) (index : 
 
   same-cycles : old.managed.state.managed.cycles ≡ s.managed.managed.cycles
   same-cycles = ap (λ (z : ManagedReplay). z.managed.cycles) may.sides.managed.state
-
-  -- no other cycle is snapped
-  pub snap_other : (k.0 ≡ old.managed.state.managed.cycles + 1 → ⊥) → MayNotReply h past (snapping k index reply)
-  snap_other differ u q = differ (snap_next s.managed k u q.replies.lawful.allowed ∙ ap (λ n. n + 1) (sym same-cycles))
 
   module _ (is_next : k.0 ≡ old.managed.state.managed.cycles + 1) (draw : Recorder) (managed : ManagedModel)
       (pins : List (Option ℕ)) (freed candidates dead : List ℕ) (threads : managed.threads ≡ old.managed.threads)

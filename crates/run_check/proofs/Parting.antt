@@ -1,5 +1,5 @@
 -- What the sides have of the open cycle, as the turns ask for it: the next handle is the next candidate's.
-use Rattle.std.proofs.Common.{◌≡◌, ℕ, zero, suc, ◌+◌, ◌<◌, ◌≤◌, Bool, ◌↔◌, List, [], ◌∷◌, ◌++◌, length, length-append, drop, Option, Some, None, refl, sym, ap, ◌∙◌, subst, arith}
+use Rattle.std.proofs.Common.{◌≡◌, ℕ, zero, suc, ◌+◌, ◌<◌, ◌≤◌, Bool, ◌↔◌, List, [], ◌∷◌, ◌++◌, length, drop, Option, Some, None, refl, sym, ap, ◌∙◌, subst, arith}
 use Rattle.std.specs.Prelude.{IsSome, is_some, slice_get}
 use Rattle.std.specs.Option.{option_to_list}
 use Rattle.std.proofs.lemmas.Option.{same_Some, slice_get_within}
@@ -9,17 +9,14 @@ use Rattle.joint_machine.specs.declared.names.Thread.{Thread}
 use Rattle.joint_machine.specs.Control as control
 use Rattle.joint_machine.specs.Control.{IsCandidateHandle}
 use Rattle.joint_machine.specs.Linked.{Linkage}
-use Rattle.joint_machine.specs.Managed.{Managed, OpenCycle, candidates_of, handle_of}
+use Rattle.joint_machine.specs.Managed.{Managed, candidates_of, handle_of}
 use Rattle.joint_machine.specs.PeerReplay.{Marking}
 use Rattle.joint_machine.specs.PinsTold.{no_pins}
-use Rattle.joint_machine.proofs.Deciding.{none_some}
 use Rattle.joint_machine.proofs.HeapLemmas.{candidates_of-open}
 use Rattle.known_laws.specs.Driving.{PastInvariant}
 use Rattle.known_laws.specs.Known.{pinned}
-use Rattle.known_laws.proofs.Conditions.{idle_is_closed}
 use Rattle.bridge_graph.specs.declared.graph.Node.{Node}
 use Rattle.bridge_graph.specs.Handles.{handle_at, handles_of}
-use Rattle.managed_heap.specs.Graphs.{IsDeadGraph}
 use Rattle.peer_heap.specs.Sides.{IsMarkingOf}
 use Rattle.caller_turns.specs.Shapes.{IsPartOf, next_place, stand_of}
 use Rattle.caller_turns.specs.Turns.{HasCount}
@@ -60,18 +57,7 @@ module _ (s : Linkage) (k : PastInvariant (pinned s no_pins)) where
   abbrev t : Managed
   t = (pinned s no_pins).managed.managed
 
-  -- where no cycle is open
-  pub none-part : CycleFollows s None → (b : Bool) → b ≡ is_some s.peer.marking → IsPartOf s (record { candidates = 0; next = None; marking = b })
-  none-part idle b m = record {
-    candidates = sym (ap length none);
-    next = λ h. ((λ e. absurd (none_some h e)), λ c. absurd (none_some c.0 (ap (λ l. slice_get l (next_place s.control.stand)) (sym none) ∙ c.1)));
-    marking = m;
-  }
-    where
-      none : candidates_of s.managed.managed ≡ []
-      none = ap (λ (o : Option OpenCycle). elim o [ None ↦ [] | Some c ↦ c.candidates ]) (idle_is_closed (pinned s no_pins) k idle)
-
-  -- and where one is
+  -- where a cycle is open
   module _ (o : Kept) (w : IsOpenHere s o) where
     are : AreCandidates t o.graph.nodes
     are = are_candidates t w.cycle o.graph k.kept.managed.managed w.opened w.part (record { numbers = w.graph.numbers; handles = w.graph.handles; edges = w.graph.edges })

@@ -18,7 +18,7 @@ use Rattle.joint_machine.specs.Linked.{Linkage}
 use Rattle.joint_model.specs.Listed.{answer_of, answers_of}
 use Rattle.joint_machine.specs.Managed.{Managed, candidates_of}
 use Rattle.joint_machine.specs.PeerReplay.{PeerReplay, MayClear, MayRestore, MayWeaken}
-use Rattle.joint_machine.specs.Sides.{AddsLawful, MayDraw, peer_rules}
+use Rattle.joint_machine.specs.Sides.{AddsLawful, peer_rules}
 use Rattle.joint_machine.specs.Told.{Answer, Noted, nothing}
 use Rattle.joint_machine.specs.PinsTold.{no_pins}
 use Rattle.joint_laws.specs.LinkedInvariants.{given_at}
@@ -40,7 +40,7 @@ use Rattle.run_check.specs.Cycles.{CycleFollows, HasCycle, IsAtHandle, IsOpenHer
 use Rattle.run_check.specs.Follows.{LeftFits}
 use Rattle.run_check.specs.Going.{HasGoneOn, HasPut}
 use Rattle.run_check.specs.Judging.{AnswersRightly, MayNotReply, MayReply, next_noted}
-use Rattle.run_check.proofs.DriverEntries.{cites-is, driver-draws, driver-is, driver-names, driver-right, driver-wrong, turn-is}
+use Rattle.run_check.proofs.DriverEntries.{cites-is, driver-is, driver-names, driver-right, driver-wrong, turn-is}
 use Rattle.run_check.proofs.Opened.{candidate-listed, candidates-are, opened-on}
 use Rattle.run_check.proofs.Drawing.{drawing}
 use Rattle.run_check.proofs.PeerEntries.{Keeps, compared, known}
@@ -53,10 +53,6 @@ kept-at h past m old ready driver o is on = (known h past m old ready (ap (λ t.
 -- where something follows, something is kept
 abbrev pub HasOpen : Linkage → Option Kept → Type 0
 HasOpen s o = (x : Kept) × (o ≡ Some x) × IsOpenHere s x
-
-pub has-open : (s : Linkage) (o : Option Kept) → CycleFollows s o → (s.control.stand ≡ idle → ⊥) → HasOpen s o
-has-open s None f n = absurd (n f)
-has-open s (Some x) f n = (x, refl, f)
 
 -- where the driver weakens
 pub record AtWeakening (stand : Stand) (s : Managed) (h : ℕ) (cites : Option ℕ) : Type 0 where
@@ -89,18 +85,12 @@ module _ (h : Finished) (m : Made) (old : Replay) (g : HNum) (is : m.op ≡ op.W
     fewer : weaken-at.count < length (candidates_of (state_of past).managed.managed)
     fewer = slice_get_within (candidates_of (state_of past).managed.managed) weaken-at.count weaken-at.candidate.0 weaken-at.candidate.1
 
-  pub weaken-left : ((past : List Noted) × MayReply h past old m) → 1 ≤ old.peers.reserve.left
-  weaken-left w = (let f = left-fits w.0 w.1 in let l = fewer w.0 w.1 in omega (arith, f, l))
-
   pub weaken-may : ((past : List Noted) × MayReply h past old m) → (cites : ℕ) → m.cites ≡ Some cites → MayWeaken old.peers.state g.0 (Some cites)
   weaken-may w cites e =
       let a = weaken-at w.0 w.1 in
       subst (λ (p : PeerReplay). MayWeaken p g.0 (Some cites)) (sym w.1.sides.peers.state)
       (subst (λ c. MayWeaken (state_of w.0).peer g.0 c) (sym a.cited ∙ e)
       (next_may_be_weakened (pinned (state_of w.0) no_pins) (weaken-kept w.0 w.1) a.opened a.count g.0 a.weakened false a.stands a.candidate))
-
-  pub weaken-draws : ((past : List Noted) × MayReply h past old m) → MayDraw peer_rules drawing old.draw (seen old.peers) C (op.Weaken g)
-  weaken-draws w = driver-draws h w.0 m old w.1 (op.Weaken g) is (weaken-driver w.0 w.1) refl
 
   -- a citation is there
   pub weaken-cites : m.cites ≡ None → ((past : List Noted) × MayReply h past old m) → ⊥
@@ -176,9 +166,6 @@ module _ (h : Finished) (m : Made) (old : Replay) (g : HNum) (is : m.op ≡ op.R
   restore-may w =
       let a = restore-at w.0 w.1 in
       subst (λ (p : PeerReplay). MayRestore p g.0) (sym w.1.sides.peers.state) (next_may_be_restored (pinned (state_of w.0) no_pins) (restore-kept w.0 w.1) a.opened a.answers g.0 a.stands a.candidate)
-
-  pub restore-draws : ((past : List Noted) × MayReply h past old m) → MayDraw peer_rules drawing old.draw (seen old.peers) C (op.Restore g)
-  restore-draws w = driver-draws h w.0 m old w.1 (op.Restore g) is (restore-driver w.0 w.1) refl
 
   -- there is room for its answer
   pub restore-room : ((past : List Noted) × MayReply h past old m) → (o : Kept) → old.cycle ≡ Some o → 1 ≤ o.alive.room
@@ -280,14 +267,6 @@ module _ (h : Finished) (m : Made) (old : Replay) (k : Cycle) (is : m.op ≡ op.
         subst (λ x. CallersData (state_of past) C x m.reply told) is (subst (λ t. CallersData (state_of past) t m.op m.reply told) clear-driver side.replies.driven) in
         n (clear-cycle o e ∙ subst (λ d. ClearData d k.0) clear-at.stands stated)
 
-  pub clear-none : ((past : List Noted) × MayReply h past old m) → old.cycle ≡ None → ⊥
-  clear-none w e =
-      (let a = clear-at w.0 w.1 in let f : (state_of w.0).control.stand ≡ idle = subst
-      (CycleFollows (state_of w.0)) e w.1.sides.cycle in let x : idle ≡ restoring a.opened a.answers = sym f ∙ a.stands in cc)
-
-  pub clear-other : (new : Replay) (o : Kept) → old.cycle ≡ Some o → (o.cycle.0 ≡ k.0 → ⊥) → AnswersRightly h m old new false
-  clear-other new o e n = λ past ready. other-wrong past ready o e n
-
   module _ (o : Kept) (kept : old.cycle ≡ Some o) (same_cycle : o.cycle.0 ≡ k.0) where
     clear-same : (past : List Noted) (ready : MayReply h past old m) → (clear-at past ready).opened.cycle ≡ k.0
     clear-same past ready = sym (clear-cycle past ready o kept) ∙ same_cycle
@@ -301,9 +280,6 @@ module _ (h : Finished) (m : Made) (old : Replay) (k : Cycle) (is : m.op ≡ op.
     pub clear-targets : ((past : List Noted) × MayReply h past old m) → AreTargetsRestored old.peers.state
     clear-targets w =
         (let a = clear-at w.0 w.1 in subst AreTargetsRestored (sym w.1.sides.peers.state) (targets_here (pinned (state_of w.0) no_pins) (clear-kept w.0 w.1) a.opened a.answers a.stands a.all))
-
-    pub clear-draws : ((past : List Noted) × MayReply h past old m) → MayDraw peer_rules drawing old.draw (seen old.peers) C (op.Clear k)
-    clear-draws w = driver-draws h w.0 m old w.1 (op.Clear k) is (clear-driver w.0 w.1) refl
 
     cleared-on : (past : List Noted) (ready : MayReply h past old m) (p : Kept) → p ≡ record o { place = p.place } → IsAtHandle p.graph.nodes p.place 0 → (t : Linkage)
         → t.managed ≡ (state_of past).managed

@@ -1,7 +1,7 @@
 -- The begin and the sweep of a marking, by the driver or by a peer thread.
-use Rattle.std.proofs.Common.{◌≡◌, ◌⊎◌, inl, inr, ℕ, ◌+◌, ◌≤◌, Bool, true, false, ◌||◌, List, [], ◌∷◌, ◌++◌, length, length-append, drop, Option, Some, None, refl, sym, ap, ◌∙◌, subst, arith}
+use Rattle.std.proofs.Common.{◌≡◌, ◌⊎◌, inl, inr, ℕ, ◌+◌, Bool, true, false, ◌||◌, List, [], ◌∷◌, ◌++◌, length, length-append, drop, Option, Some, None, refl, sym, ap, ◌∙◌, subst, arith}
 use Rattle.std.proofs.Common.{true≢false}
-use Rattle.std.specs.Prelude.{◌↔◌, ◌-◌, IsSome, IsTrue, if◌then◌else◌}
+use Rattle.std.specs.Prelude.{◌↔◌, ◌-◌, IsTrue, if◌then◌else◌}
 use Rattle.joint_machine.specs.declared.names.Marking.{Marking as Number}
 use Rattle.joint_machine.specs.declared.names.Span.{Span}
 use Rattle.joint_machine.specs.declared.names.Thread.{Thread}
@@ -20,7 +20,7 @@ use Rattle.joint_model.specs.Listed.{answers_of}
 use Rattle.joint_machine.specs.Managed.{candidates_of}
 use Rattle.joint_machine.specs.PeerReplay.{PeerReplay, Marking, SweepAllows, is_thread, peer_answer, swept, swept_of}
 use Rattle.joint_machine.specs.Draws.{Drawing}
-use Rattle.joint_machine.specs.Sides.{AddsInTurn, AddsLawful, MayDraw, Side, SideRules, peer_rules}
+use Rattle.joint_machine.specs.Sides.{AddsInTurn, AddsLawful, Side, SideRules, peer_rules}
 use Rattle.joint_machine.specs.Told.{Noted, Told, nothing, sweep_of}
 use Rattle.joint_machine.specs.PinsTold.{no_pins}
 use Rattle.joint_laws.specs.LinkedInvariants.{given_at}
@@ -33,10 +33,8 @@ use Rattle.caller_turns.specs.Shapes.{next_place}
 use Rattle.check_laws.specs.Behind.{NamesSo, RepliesBehind, SideReplies, state_of}
 use Rattle.check_laws.specs.Laws.{IsNoRefusal}
 use Rattle.check_laws.specs.Order.{BeginTurn, SweepTurn}
-use Rattle.peer_heap.specs.declared.side.BeginFault.{BeginFault}
-use Rattle.peer_heap.specs.declared.side.BeginFault.TheVariants.{OutOfMemory, MarkOpen}
-use Rattle.peer_heap.specs.Makings.{IsSideStep, MayDrawStep, MayStep, step_makings, told_at}
-use Rattle.peer_heap.specs.Sides.{IsFaultAt, MayEnd, Reserve, begins, ends, reserve_begun, seen}
+use Rattle.peer_heap.specs.Makings.{step_makings, told_at}
+use Rattle.peer_heap.specs.Sides.{MayEnd, Reserve, begins, ends, reserve_begun, seen}
 use Rattle.run_check.specs.declared.cycles.OpenCycle.{OpenCycle as Kept}
 use Rattle.run_check.specs.declared.replays.Replay.{Replay}
 use Rattle.run_check.specs.Cycles.{CycleFollows, HasCycle, IsAtHandle, IsOpenHere}
@@ -44,12 +42,12 @@ use Rattle.run_check.specs.Follows.{LeftFits}
 use Rattle.run_check.specs.Going.{HasBegun}
 use Rattle.run_check.specs.Lists.{StandsInList, rest_of}
 use Rattle.run_check.specs.Judging.{AnswersRightly, MayNotReply, MayReply, Replied, next_noted}
-use Rattle.run_check.proofs.DriverEntries.{driver-draws, driver-is, driver-names, driver-one, driver-right, driver-wrong, turn-is, cites-is}
+use Rattle.run_check.proofs.DriverEntries.{driver-is, driver-names, driver-one, driver-right, driver-wrong, turn-is, cites-is}
 use Rattle.run_check.proofs.Opened.{opened-on}
 use Rattle.run_check.proofs.Drawing.{drawing}
-use Rattle.run_check.proofs.PeerEntries.{Keeps, compared, may_draw, one as is-one, wrong}
+use Rattle.run_check.proofs.PeerEntries.{Keeps, compared, one as is-one, wrong}
 use Rattle.run_check.proofs.PeerHandles.{kept-at}
-use Rattle.run_check.proofs.PeerSteps.{alike-made, peer-cites, peer-data, peer-takes, thread-named, thread-right}
+use Rattle.run_check.proofs.PeerSteps.{alike-made, peer-cites, peer-data, thread-named, thread-right}
 
 -- one making, and nothing else
 one-added : {S D : Type 0} (r : SideRules S) (d : Drawing D) (before after : D) (old new : Side S) (m : Made) (told : Told)
@@ -77,10 +75,6 @@ at-beginning (weakening o count weakened swept) c (Some mk) t = absurd t
 at-beginning idle c mk t = absurd t
 at-beginning _ c mk t = absurd t
 
-fault-open : (f : BeginFault) → (f ≡ OutOfMemory → ⊥) → IsFaultAt f None → ⊥
-fault-open OutOfMemory n w = n refl
-fault-open (MarkOpen j) n w = w
-
 -- no reference waits behind a begin that didn't before
 pub begun-waits : (b : Bool) (r : Reserve) → (reserve_begun b r).waiting ≡ r.waiting
 begun-waits true r = refl
@@ -102,9 +96,6 @@ module _ (h : Finished) (m : Made) (old : Replay) (is : m.op ≡ op.Begin) where
   on-peers : is_peer_event m.caller m.op ≡ true
   on-peers = ap (λ o. is_peer_event m.caller o) is
 
-  pub begin-caller : ((past : List Noted) × MayReply h past old m) → IsPeerThread m.caller ⊎ IsDriver m.caller
-  begin-caller w = begin-event w.0 w.1
-
   -- by the driver
   module _ (driver : m.caller ≡ C) where
     module _ (past : List Noted) (ready : MayReply h past old m) where
@@ -116,12 +107,6 @@ module _ (h : Finished) (m : Made) (old : Replay) (is : m.op ≡ op.Begin) where
 
       begin-none : old.peers.state.marking ≡ None
       begin-none = ap (λ (p : PeerReplay). p.marking) ready.sides.peers.state ∙ begin-at.shut
-
-    pub begin-draws : ((past : List Noted) × MayReply h past old m) → MayDraw peer_rules drawing old.draw (seen old.peers) m.caller op.Begin
-    begin-draws w = subst (λ t. MayDraw peer_rules drawing old.draw (seen old.peers) t op.Begin) (sym driver) (driver-draws h w.0 m old w.1 op.Begin is driver refl)
-
-    pub begin-fault : (f : BeginFault) (new : Replay) → (f ≡ OutOfMemory → ⊥) → IsFaultAt f old.peers.state.marking → AnswersRightly h m old new false
-    begin-fault f new n w = λ past ready. absurd (fault-open f n (subst (IsFaultAt f) (begin-none past ready) w))
 
     begun-on : (past : List Noted) (ready : MayReply h past old m) (o new : Option Kept) → CycleFollows (state_of past) o → HasBegun o new → (t : Linkage) → t.managed ≡ (state_of past).managed
         → t.control.stand ≡ marked (begin-at past ready).opened → CycleFollows t new
@@ -152,16 +137,6 @@ module _ (h : Finished) (m : Made) (old : Replay) (is : m.op ≡ op.Begin) where
   module _ (other : m.caller ≡ C → ⊥) where
     begin-thread : (past : List Noted) → MayReply h past old m → IsPeerThread m.caller
     begin-thread past ready = thread-or m.caller (begin-event past ready) other
-
-    pub thread-begin-may : ((past : List Noted) × MayReply h past old m) → MayStep old.peers.state m.caller m.op None
-    thread-begin-may w = subst (λ o. MayStep old.peers.state m.caller o None) (sym is) refl
-
-    pub thread-begin-step : ((past : List Noted) × MayReply h past old m) → IsSideStep m.caller m.op
-    thread-begin-step w = subst (IsSideStep m.caller) (sym is) (begin-event w.0 w.1)
-
-    pub thread-begin-draws : ((past : List Noted) × MayReply h past old m) → MayDrawStep drawing old.draw (seen old.peers) m.caller m.op
-    thread-begin-draws w =
-        subst (λ o. MayDrawStep drawing old.draw (seen old.peers) m.caller o) (sym is) (may_draw h w.0 m old w.1 on-peers m.caller op.Begin (peer-takes m.caller (begin-thread w.0 w.1)))
 
     pub thread-begin-answers : (new : Replay) (reply : Reply) (gone : List ℕ) (b : Bool)
         → AddsInTurn peer_rules drawing old.draw new.draw (seen old.peers) (seen new.peers) (step_makings m.caller m.index m.op None reply gone)
@@ -330,17 +305,8 @@ module _ (h : Finished) (m : Made) (old : Replay) (is : m.op ≡ op.Sweep) where
   sweep-peers : is_peer_event m.caller m.op ≡ true
   sweep-peers = ap (λ o. is_peer_event m.caller o) is
 
-  pub sweep-caller : ((past : List Noted) × MayReply h past old m) → IsPeerThread m.caller ⊎ IsDriver m.caller
-  sweep-caller w = sweep-event w.0 w.1
-
   -- by the driver
   module _ (driver : m.caller ≡ C) where
-    pub sweep-may-end : MayEnd old.peers.state.marking m.caller
-    sweep-may-end = sweep-ends old.peers.state.marking m.caller driver
-
-    pub sweep-draws : ((past : List Noted) × MayReply h past old m) → MayDraw peer_rules drawing old.draw (seen old.peers) m.caller op.Sweep
-    sweep-draws w = subst (λ t. MayDraw peer_rules drawing old.draw (seen old.peers) t op.Sweep) (sym driver) (driver-draws h w.0 m old w.1 op.Sweep is driver refl)
-
     -- a marking is open
     pub sweep-none : (new : Replay) → old.peers.state.marking ≡ None → AnswersRightly h m old new false
     sweep-none new n =
@@ -383,19 +349,6 @@ module _ (h : Finished) (m : Made) (old : Replay) (is : m.op ≡ op.Sweep) where
     sweep-thread : (past : List Noted) → MayReply h past old m → IsPeerThread m.caller
     sweep-thread past ready = thread-or m.caller (sweep-event past ready) other
 
-    no-driver-at : (t : Thread) (x : Type 0) → (t ≡ C → ⊥) → IsDriver t → x
-    no-driver-at t x n d = absurd (n (driver-is t d))
-
-    pub thread-sweep-may : ((past : List Noted) × MayReply h past old m) → MayStep old.peers.state m.caller m.op None
-    thread-sweep-may w = subst (λ o. MayStep old.peers.state m.caller o None) (sym is) (refl, λ d. no-driver-at m.caller (IsSome old.peers.state.marking) other d)
-
-    pub thread-sweep-step : ((past : List Noted) × MayReply h past old m) → IsSideStep m.caller m.op
-    thread-sweep-step w = subst (IsSideStep m.caller) (sym is) (sweep-event w.0 w.1)
-
-    pub thread-sweep-draws : ((past : List Noted) × MayReply h past old m) → MayDrawStep drawing old.draw (seen old.peers) m.caller m.op
-    thread-sweep-draws w =
-        subst (λ o. MayDrawStep drawing old.draw (seen old.peers) m.caller o) (sym is) (may_draw h w.0 m old w.1 sweep-peers m.caller op.Sweep (peer-takes m.caller (sweep-thread w.0 w.1)))
-
     pub thread-sweeps : (new : Replay) (reply : Reply) (gone : List ℕ)
         → AddsInTurn peer_rules drawing old.draw new.draw (seen old.peers) (seen new.peers) (step_makings m.caller m.index m.op None reply gone)
         → Keeps old new → new.cycle ≡ old.cycle → new.peers.reserve ≡ old.peers.reserve → MakesSweep h m old new reply (told_at op.Sweep reply gone)
@@ -426,10 +379,6 @@ module _ (h : Finished) (m : Made) (old : Replay) (is : m.op ≡ op.Sweep) where
   module _ (new : Replay) (j : Number) (span : Span) (gone : List ℕ) (makes : MakesSweep h m old new (says.Swept j span) (sweep_of gone)) (same : m.reply ≡ says.Swept j span) where
     swept-at : (past : List Noted) → MayReply h past old m → AreSwept old.peers.state new.peers.state span gone
     swept-at past ready = (let o = makes past ready in are-swept old.peers.state new.peers.state old.peers.state.marking m.caller gone j span o.allowed o.replies o.state)
-
-    -- the span begins within the list
-    pub sweep-within : ((past : List Noted) × MayReply h past old m) → span.first ≤ length new.peers.state.peers.heap.freed
-    sweep-within w = (let a = swept-at w.0 w.1 in let f = a.first in let l = ap length a.after in let b = length-append old.peers.state.peers.heap.freed gone in omega (arith, f, l, b))
 
     sweep-right : (past : List Noted) (ready : MayReply h past old m) → StandsInList ps span new.peers.state.peers.heap.freed → Replied h past m old new (sweep_of gone)
     sweep-right past ready stands =

@@ -1,6 +1,6 @@
 -- The driver's mirror: the mirror edges of the components that were told come to stand as references between the peers
 -- of the dead part's handles.
-use Rattle.std.proofs.Common.{◌≡◌, ℕ, Bool, false, List, length, Option, Some, None, refl, sym, ap, ◌∙◌, subst, arith}
+use Rattle.std.proofs.Common.{◌≡◌, ℕ, Bool, false, List, length, Option, Some, refl, sym, ap, ◌∙◌, subst, arith}
 use Rattle.std.specs.Prelude.{◌↔◌, IsTrue}
 use Rattle.std.proofs.lemmas.Option.{same_Some}
 use Rattle.joint_machine.specs.declared.names.Cycle.{Cycle}
@@ -9,13 +9,13 @@ use Rattle.joint_machine.specs.declared.events.Made.{Made}
 use Rattle.joint_machine.specs.declared.events.Op.TheVariants as op
 use Rattle.joint_machine.specs.declared.events.Reply.TheVariants as says
 use Rattle.joint_machine.specs.Components.{mirror_edges}
-use Rattle.joint_machine.specs.Control.{OpenSnap, Stand, idle, contracted, weakening, carried_edges, stand_after}
+use Rattle.joint_machine.specs.Control.{OpenSnap, Stand, contracted, weakening, carried_edges, stand_after}
 use Rattle.joint_machine.specs.Cycles.{IsDeadContraction}
 use Rattle.joint_machine.specs.Histories.{Finished}
 use Rattle.joint_machine.specs.Lines.{IsEvent}
 use Rattle.joint_machine.specs.Managed.{Managed}
 use Rattle.joint_machine.specs.PeerReplay.{PeerReplay, MayMirror, row_of}
-use Rattle.joint_machine.specs.Sides.{AddsLawful, MayDraw, peer_rules}
+use Rattle.joint_machine.specs.Sides.{AddsLawful, peer_rules}
 use Rattle.joint_machine.specs.Told.{Noted, references_of}
 use Rattle.joint_machine.specs.PinsTold.{no_pins}
 use Rattle.joint_laws.specs.LinkedInvariants.{given_at}
@@ -38,7 +38,7 @@ use Rattle.run_check.specs.declared.replays.Replay.{Replay}
 use Rattle.dead_parts.specs.Graphs.{numbered_comps}
 use Rattle.run_check.specs.Cycles.{CycleFollows, HasCycle, HasListing, IsAtHandle, IsOpenHere}
 use Rattle.run_check.specs.Judging.{AnswersRightly, MayReply}
-use Rattle.run_check.proofs.DriverEntries.{cites-is, driver-draws, driver-is, driver-names, driver-right, driver-wrong}
+use Rattle.run_check.proofs.DriverEntries.{cites-is, driver-is, driver-names, driver-right, driver-wrong}
 use Rattle.dead_parts.proofs.MirroredParts.{ShowsHandles, candidates-same, carried-is, handles-strong, members-bridge, shows-on}
 use Rattle.run_check.proofs.Opened.{opened-on, same-dead}
 use Rattle.run_check.proofs.Drawing.{drawing}
@@ -76,18 +76,6 @@ module _ (h : Finished) (m : Made) (old : Replay) (k : Cycle) (is : m.op ≡ op.
 
     has-listing : (o : Kept) → old.cycle ≡ Some o → (o.cycle.0 ≡ mirror-at.opened.cycle) × HasListing o mirror-at.comps mirror-at.heavy mirror-at.xrefs
     has-listing o e = subst (λ d. HasCycle d o) mirror-at.stands (follows-open o e).stands
-
-  pub mirror-none : ((past : List Noted) × MayReply h past old m) → old.cycle ≡ None → ⊥
-  mirror-none w e =
-      let a = mirror-at w.0 w.1 in
-      let f : (state_of w.0).control.stand ≡ idle = subst (CycleFollows (state_of w.0)) e w.1.sides.cycle in
-      let x : idle ≡ contracted a.opened a.comps a.heavy a.xrefs = sym f ∙ a.stands in cc
-
-  pub mirror-cites-none : ((past : List Noted) × MayReply h past old m) → m.cites ≡ None → ⊥
-  mirror-cites-none w e = (let f : None ≡ Some (mirror-at w.0 w.1).opened.snap = sym e ∙ (mirror-at w.0 w.1).cited in cc)
-
-  pub mirror-comps-none : ((past : List Noted) × MayReply h past old m) → (o : Kept) → old.cycle ≡ Some o → o.comps ≡ None → ⊥
-  mirror-comps-none w o e n = (let l = (has-listing w.0 w.1 o e).1 in let f : None ≡ Some l.listing = sym n ∙ l.there in cc)
 
   -- with these components, which are those that were told
   module _ (o : Kept) (kept : old.cycle ≡ Some o) (l : Listing) (listed : o.comps ≡ Some l) (cites : ℕ) (cited : m.cites ≡ Some cites) where
@@ -152,9 +140,6 @@ module _ (h : Finished) (m : Made) (old : Replay) (k : Cycle) (is : m.op ≡ op.
         subst (λ (p : PeerReplay). MayMirror p k.0 (Some cites)) (sym w.1.sides.peers.state)
         (subst (λ c. MayMirror (state_of w.0).peer k.0 c) (sym (a w.0 w.1).cited ∙ cited)
         (subst (λ n. MayMirror (state_of w.0).peer n (Some (a w.0 w.1).opened.snap)) (a w.0 w.1).same_cycle (may w.0 w.1).mirrors))
-
-    pub mirror-draws : ((past : List Noted) × MayReply h past old m) → MayDraw peer_rules drawing old.draw (seen old.peers) C (op.Mirror k)
-    mirror-draws w = driver-draws h w.0 m old w.1 (op.Mirror k) is (mirror-driver w.0 w.1) refl
 
     mirror-data : (past : List Noted) (ready : MayReply h past old m) → DriverData (state_of past).control.stand (state_of past).managed.managed (state_of past).peer.peers.issued (op.Mirror k) m.reply
         (references_of (carried_to_peers old.peers.state.peers.issued o.graph.nodes (mirror_edges l.comps l.pairs)))

@@ -14,7 +14,7 @@ use Rattle.joint_machine.specs.Histories.{Finished}
 use Rattle.joint_machine.specs.Lines.{IsEvent, IsOneEvent, IsPeerAct, IsPeerThread, is_peer_event}
 use Rattle.joint_machine.specs.Linked.{Linkage}
 use Rattle.joint_machine.specs.PeerReplay.{PeerReplay, MayRelease, PeerAllows}
-use Rattle.joint_machine.specs.Sides.{AddsLawful, MayDraw, TakesPeer, peer_rules}
+use Rattle.joint_machine.specs.Sides.{AddsLawful, peer_rules}
 use Rattle.joint_machine.specs.Told.{Noted, Told, nothing}
 use Rattle.joint_machine.specs.PinsTold.{no_pins}
 use Rattle.joint_laws.proofs.SpansTold.{HasSpan}
@@ -32,7 +32,7 @@ use Rattle.run_check.specs.Follows.{ReserveFollows}
 use Rattle.run_check.specs.Judging.{AnswersRightly, IsPeerStepped, MayReply, Replied, next_noted}
 use Rattle.run_check.proofs.Opened.{reserved, stays}
 use Rattle.run_check.proofs.Drawing.{drawing}
-use Rattle.run_check.proofs.PeerEntries.{Keeps, compared, control_is, known, managed_is, may_draw, names_none, right, wrong}
+use Rattle.run_check.proofs.PeerEntries.{Keeps, compared, control_is, known, managed_is, names_none, right, wrong}
 
 line-is : (a : Act) → IsPeerAct a → IsOneEvent a → IsPeerStepped (op.Line a) → IsStepLine a
 line-is (act.NewPeer v n) p e s = tt
@@ -90,16 +90,6 @@ step-spans-none t _ p s = s
 step-refuses-none : (t : Thread) (o : Op) → IsPeerStep t o → IsNoRefusal o
 step-refuses-none t (op.Refused w) p = p
 step-refuses-none t _ p = tt
-
-pub step-takes : (t : Thread) (o : Op) → IsPeerStep t o → TakesPeer 8 t
-step-takes (M u) o p = tt
-step-takes C o p = tt
-step-takes (P u) (op.Line a) p = p.0.1
-step-takes (P u) (op.Make sort n) p = absurd p.0
-step-takes (P u) (op.Land h x) p = absurd p.0
-step-takes (P u) (op.Grip x) p = absurd p.0
-step-takes (P u) (op.Release h) p = absurd p
-step-takes (P u) _ p = absurd p
 
 no-driver-step : (o : Op) → IsPeerStep C o → ⊥
 no-driver-step (op.Line a) p = p.0
@@ -181,9 +171,6 @@ module _ (h : Finished) (m : Made) (old : Replay) (w : (past : List Noted) × Ma
   peer-step-allowed = subst (λ (p : PeerReplay). PeerAllows p m.caller m.op m.cites nothing) (sym w.1.sides.peers.state)
       (step-allowed (state_of w.0) (known h w.0 m old w.1 peer).kept m.caller m.op m.cites peer-step w.1.next.cites)
 
-  pub peer-step-draws : MayDraw peer_rules drawing old.draw (seen old.peers) m.caller m.op
-  peer-step-draws = may_draw h w.0 m old w.1 peer m.caller m.op (step-takes m.caller m.op peer-step)
-
 -- and its answer is compared
 pub peer-step-answers : (h : Finished) (m : Made) (old new : Replay) (reply : Reply) (b : Bool) → is_peer_event m.caller m.op ≡ true → IsPeerStepped m.op
     → AddsLawful peer_rules drawing old.draw new.draw (seen old.peers) (seen new.peers) (record { caller = m.caller; index = m.index; op = m.op; reply = reply; cites = m.cites }) nothing
@@ -215,11 +202,6 @@ peer-data s (P u) o r told p = tt
 peer-data s (M u) o r told p = absurd p
 peer-data s C o r told p = absurd p
 
-pub peer-takes : (t : Thread) → IsPeerThread t → TakesPeer 8 t
-peer-takes (P u) p = p.1
-peer-takes (M u) p = absurd p
-peer-takes C p = absurd p
-
 pub no-driver : (t : Thread) → IsPeerThread t → t ≡ C → ⊥
 no-driver t p e = subst IsPeerThread e p
 
@@ -234,15 +216,6 @@ module _ (h : Finished) (m : Made) (old : Replay) (n : ℕ) (is : m.op ≡ op.Li
 
   cites-none : (past : List Noted) (ready : MayReply h past old m) → m.cites ≡ None
   cites-none past ready = peer-cites (state_of past) m.caller m.op m.cites (thread-of past ready).0 ready.next.cites
-
-  pub slice-caller : ((past : List Noted) × MayReply h past old m) → IsPeerThread m.caller
-  slice-caller w = (thread-of w.0 w.1).0
-
-  pub slice-counts : ((past : List Noted) × MayReply h past old m) → (1 ≤ n) × (n ≤ 65535)
-  slice-counts w = ((thread-of w.0 w.1).1, (thread-of w.0 w.1).2)
-
-  pub slice-draws : ((past : List Noted) × MayReply h past old m) → MayDraw peer_rules drawing old.draw (seen old.peers) m.caller (op.Line (act.Slice n))
-  slice-draws w = may_draw h w.0 m old w.1 peer m.caller (op.Line (act.Slice n)) (peer-takes m.caller (slice-caller w))
 
   pub slice-answers : (new : Replay) (reply : Reply) (b : Bool)
       → ((told : Told) × AddsLawful peer_rules drawing old.draw new.draw (seen old.peers) (seen new.peers)

@@ -1,6 +1,6 @@
 -- A reader's entry that answers as it may: the past is longer by it, and what follows the past follows it still.
-use Rattle.std.proofs.Common.{◌≡◌, ℕ, zero, suc, ◌+◌, ◌<◌, ◌≤◌, ◌^◌, ◌↔◌, Bool, true, false, List, [], ◌∷◌, length, map, drop, set, Option, Some, None, refl, sym, ap, ◌∙◌, subst, arith, true≢false}
-use Rattle.std.specs.Prelude.{IsTrue, slice_set}
+use Rattle.std.proofs.Common.{◌≡◌, ℕ, zero, suc, ◌+◌, ◌<◌, ◌≤◌, ◌^◌, true, List, [], ◌∷◌, length, map, Option, Some, None, refl, sym, ap, ◌∙◌, subst, arith}
+use Rattle.std.specs.Prelude.{slice_set}
 use Rattle.std.proofs.lemmas.List.{length-set, map-set}
 use Rattle.joint_machine.specs.declared.names.Cycle.{Cycle}
 use Rattle.joint_machine.specs.declared.names.MNum.{MNum}
@@ -22,7 +22,7 @@ use Rattle.joint_machine.specs.Run.{thread_number}
 use Rattle.joint_machine.specs.Told.{Noted, Told, nothing}
 use Rattle.joint_machine.specs.PinsTold.{no_pins, with_pins}
 use Rattle.joint_laws.specs.LinkedInvariants.{given_at}
-use Rattle.check_laws.specs.Behind.{IsReplyBehind, ReaderReplies, ReadsBehind, RepliesBehind, state_of}
+use Rattle.check_laws.specs.Behind.{IsReplyBehind, RepliesBehind, state_of}
 use Rattle.check_laws.proofs.Keeping.{after-read}
 use Rattle.check_laws.proofs.Tested.{cell-read}
 use Rattle.caller_turns.specs.Shapes.{next_place}
@@ -33,7 +33,7 @@ use Rattle.run_check.specs.declared.readers.Readers.{Readers}
 use Rattle.run_check.specs.declared.replays.Replay.{Replay}
 use Rattle.run_check.specs.Cycles.{CycleFollows, HasCycle, IsAtHandle}
 use Rattle.run_check.specs.Follows.{LeftFits, owed_after, owed_by_read, pins_read, shown_pins}
-use Rattle.run_check.specs.Judging.{AnswersRightly, IsBehind, MayNotReply, MayReply, Replied, next_noted}
+use Rattle.run_check.specs.Judging.{IsBehind, MayReply, Replied, next_noted}
 use Rattle.run_check.proofs.Longer.{below-more}
 use Rattle.run_check.proofs.Reading.{reader-cell, reader-thread}
 
@@ -98,9 +98,6 @@ module _ (h : Finished) (past : List Noted) (m : Made) (old : Replay) (may : May
     bare = refl;
     reply = λ j c. subst (λ i. IsReplyBehind past s.managed.managed (length past) m.caller i m.reply) (one-cell m.op k j cell c) w;
   }
-
-  pub no-reply : (IsReplyBehind past s.managed.managed (length past) m.caller k m.reply → ⊥) → MayNotReply h past m
-  no-reply wrong told w = (let r : ReaderReplies past (next_noted past m told) = subst (λ b. RepliesBehind b h past (next_noted past m told)) read w in wrong (r.reply k cell))
 
   after : state_of (n ∷ past) ≡ reader_after s n
   after = after-read s n read

@@ -1,5 +1,5 @@
 -- What a reader's entry may answer, by the pins, the cells' targets and the counts that are kept.
-use Rattle.std.proofs.Common.{◌≡◌, inl, inr, ℕ, zero, suc, ◌+◌, ◌<◌, ◌≤◌, ◌↔◌, Bool, true, false, List, [], ◌∷◌, length, map, drop, Option, Some, None, refl, sym, ap, ◌∙◌, subst, arith, true≢false}
+use Rattle.std.proofs.Common.{◌≡◌, ℕ, zero, suc, ◌<◌, ◌↔◌, Bool, true, false, List, [], ◌∷◌, length, map, Option, Some, None, refl, sym, ap, ◌∙◌, subst, arith, true≢false}
 use Rattle.std.specs.Prelude.{Contains, if◌then◌else◌, is_some, slice_get, slice_set}
 use Rattle.joint_machine.specs.declared.names.MNum.{MNum}
 use Rattle.joint_machine.specs.declared.names.Thread.{Thread}
@@ -13,24 +13,21 @@ use Rattle.joint_machine.specs.Heaps.{Answered, Heap, IsLive, answer, is_freed, 
 use Rattle.joint_machine.specs.Histories.{Finished}
 use Rattle.joint_machine.specs.Lines.{IsEvent, IsManagedThread, IsThread, is_read}
 use Rattle.joint_machine.specs.Managed.{Managed, OpenCycle, cell_read, managed_name, read_cell, target_read}
-use Rattle.joint_machine.specs.Readers.{MayBeUnset, ReadsCell, is_set_aside}
+use Rattle.joint_machine.specs.Readers.{MayBeUnset, ReadsCell}
 use Rattle.joint_machine.specs.Run.{thread_number}
 use Rattle.joint_machine.specs.Told.{Noted}
 use Rattle.joint_machine.proofs.Deciding.{none_some}
 use Rattle.joint_machine.proofs.HeapLemmas.{Contains-is_freed, is_freed-live}
 use Rattle.joint_machine.proofs.Numbered.{slot-Contains}
 use Rattle.check_laws.specs.Behind.{IsReplyBehind, MayBePendingBehind, in_turn, state_of}
-use Rattle.check_laws.specs.Counts.{AreCounted, IsUnknown, IsUnsetBy, setting}
-use Rattle.check_laws.specs.Known.{seen}
+use Rattle.check_laws.specs.Counts.{AreCounted}
 use Rattle.check_laws.proofs.Counting.{reads_counted}
 use Rattle.check_laws.proofs.Naming.{all_read}
 use Rattle.check_laws.proofs.Turned.{all_come, in_place}
 use Rattle.reader_counts.specs.Counts.{IsPendingIn, IsUnknownIn}
 use Rattle.reader_counts.specs.Told.{AreTold}
 use Rattle.reader_counts.proofs.Counted.{told_by_counts}
-use Rattle.managed_heap.specs.Pinned.{pins_given}
 use Rattle.managed_heap.specs.Rows.{number_or_none}
-use Rattle.run_check.specs.declared.readers.Readers.{Readers}
 use Rattle.run_check.specs.declared.replays.Replay.{Replay}
 use Rattle.run_check.specs.Follows.{shown_pins}
 use Rattle.run_check.specs.Judging.{IsBehind, IsReplyUnpinned}
@@ -117,10 +114,6 @@ module _ (h : Finished) (past : List Noted) (r : Replay) (w : IsBehind h past r)
   heap-is : r.managed.state.managed.heap ≡ (state_of past).managed.managed.heap
   heap-is = ap (λ z. z.managed.heap) w.follows.sides.managed.state
 
-  -- the ends that are counted are those of the cycles
-  pub ends-many : length r.readers.counts.ended ≡ r.managed.state.managed.cycles
-  ends-many = w.follows.callers.counts.cycles ∙ sym cycles-are
-
   pub pending-so : (t : Thread) (k : ℕ) → IsThread t → IsPendingIn r.readers.counts t k r.managed.state.managed.cycles (is_some r.managed.state.managed.cycle)
       ↔ MayBePendingBehind past (state_of past).managed.managed (length past) t k
   pending-so t k i = subst (λ n. IsPendingIn r.readers.counts t k n (is_some r.managed.state.managed.cycle) ↔ MayBePendingBehind past (state_of past).managed.managed (length past) t k)
@@ -165,14 +158,8 @@ module _ (h : Finished) (past : List Noted) (r : Replay) (w : IsBehind h past r)
   abbrev s : Managed
   s = (state_of past).managed.managed
 
-  pub open-none : (t k : ℕ) (q : Reply) (c : OpenCycle) → is_set_aside q ≡ false → r.managed.state.managed.cycle ≡ Some c → q ≡ (cell_read s t k s.cycle).reply → ⊥
-  open-none t k q c a e x = true≢false (sym (ap is_set_aside (x ∙ ap (λ (o : Option OpenCycle). (cell_read s t k o).reply) (sym cycle-is ∙ e))) ∙ a)
-
   shut-read : (t k : ℕ) (o : Option MNum) → r.managed.state.managed.cycle ≡ None → slice_get r.readers.targets k ≡ Some o → (cell_read s t k s.cycle).reply ≡ (target_read s t (number_or_none o)).reply
   shut-read t k o e g = ap (λ (c : Option OpenCycle). (cell_read s t k c).reply) (sym cycle-is ∙ e) ∙ ap (λ (x : Option ℕ). (target_read s t x).reply) (cell-is k o g)
-
-  pub unset-none-other : (t k : ℕ) (q : Reply) → is_set_aside q ≡ false → r.managed.state.managed.cycle ≡ None → slice_get r.readers.targets k ≡ Some None → q ≡ (cell_read s t k s.cycle).reply → ⊥
-  unset-none-other t k q a e g x = true≢false (sym (ap is_set_aside (x ∙ shut-read t k None e g)) ∙ a)
 
   abbrev freed-by : Bool → ℕ → ℕ → Reply
   freed-by b t x = if b then says.Gone else says.M record { 0 = x }

@@ -1,6 +1,6 @@
 -- A resolve: the driver has restored all candidates and cleared the mirror; the answers that are kept are those of the
 -- restores, so the call may close the cycle. It may come exactly where it answers and names what is freed.
-use Rattle.std.proofs.Common.{◌≡◌, ℕ, Bool, true, false, List, ◌∷◌, ◌++◌, length, Option, Some, None, refl, sym, ap, ◌∙◌, subst}
+use Rattle.std.proofs.Common.{◌≡◌, ℕ, Bool, true, List, ◌∷◌, ◌++◌, length, Option, Some, None, refl, sym, ap, ◌∙◌, subst}
 use Rattle.std.proofs.lemmas.List.{length-map}
 use Rattle.std.proofs.lemmas.Option.{same_Some}
 use Rattle.joint_machine.specs.declared.names.Cycle.{Cycle}
@@ -42,7 +42,7 @@ use Rattle.run_check.specs.Lists.{StandsInList}
 use Rattle.run_check.proofs.Drawing.{counted, drawing}
 use Rattle.run_check.proofs.FreedNames.{put_span, put_stands, resolution_named, resolution_stands, stands_put}
 use Rattle.run_check.proofs.Longer.{control-next, managed-longer, peers-longer, stores-longer}
-use Rattle.run_check.proofs.OneReply.{HasMade, IsSame, Judges, replies_by}
+use Rattle.run_check.proofs.OneReply.{HasMade, Judges, replies_by}
 use Rattle.run_check.proofs.OwnEntries.{IsMadeIn, plain-made}
 use Rattle.run_check.proofs.PastFacts.{past_kept}
 
@@ -103,18 +103,12 @@ module _ (h : Finished) (past : List Noted) (old : Replay) (k : Cycle) (index : 
   abbrev s : Linkage
   s = state_of past
 
-  pub resolve_some : old.cycle ≡ None → ⊥
-  resolve_some e = subst ResolveTurn (subst (CycleFollows s) e may.sides.cycle) may.next.turn.turn
-
   module _ (o : Kept) (is : old.cycle ≡ Some o) where
     here : IsOpenHere s o
     here = subst (CycleFollows s) is may.sides.cycle
 
     pub resolve_all : AllRestored s o k.0 cites
     resolve_all = all_restored s o k.0 cites may.next.turn.turn may.next.cites here.stands here.given
-
-    pub resolve_names : o.cycle.0 ≡ k.0
-    resolve_names = resolve_all.names
 
     pub resolve_cites : cites ≡ None → ⊥
     resolve_cites e = none_some resolve_all.clear (sym e ∙ resolve_all.cited)

@@ -1,7 +1,7 @@
 -- A plain step of the managed side: what its call asks for holds behind the past, by what the thread has in hand; it
 -- leaves the open cycle, the pins and the cells alone; and where it takes notices, they are the oldest that wait.
-use Rattle.std.proofs.Common.{◌≡◌, inl, inr, ℕ, ◌+◌, ◌-◌, ◌<◌, ◌≤◌, Bool, true, false, List, [], ◌∷◌, length, Option, Some, None, refl, sym, ap, ◌∙◌, subst, arith, true≢false}
-use Rattle.std.specs.Prelude.{Contains, IsSome, min, slice_get}
+use Rattle.std.proofs.Common.{◌≡◌, ℕ, ◌+◌, ◌-◌, ◌≤◌, true, false, List, length, Option, refl, sym, ap, ◌∙◌, subst, arith, true≢false}
+use Rattle.std.specs.Prelude.{Contains, min}
 use Rattle.joint_machine.specs.declared.names.Cycle.{Cycle}
 use Rattle.joint_machine.specs.declared.names.HNum.{HNum}
 use Rattle.joint_machine.specs.declared.names.PNum.{PNum}
@@ -19,7 +19,7 @@ use Rattle.joint_machine.specs.declared.events.Reply.{Reply}
 use Rattle.joint_machine.specs.declared.events.Reply.TheVariants as says
 use Rattle.joint_machine.specs.Control as control
 use Rattle.joint_machine.specs.Control.{Control, Doing, Stand, control_after, doing_at, stand_after}
-use Rattle.joint_machine.specs.Lines.{IsDriver, IsEvent, IsLine, IsManagedThread, IsOneEvent, is_peer_event, is_read}
+use Rattle.joint_machine.specs.Lines.{IsDriver, IsEvent, IsLine, IsOneEvent, is_peer_event, is_read}
 use Rattle.joint_machine.specs.PinsTold.{is_pinned, no_pins, with_pins}
 use Rattle.joint_machine.specs.Linked.{Linkage, ManagedLawful, SideLawful}
 use Rattle.joint_machine.specs.Managed.{Managed}
@@ -27,7 +27,7 @@ use Rattle.joint_machine.specs.ManagedReplay.{ManagedAllows, ManagedReplay, mana
 use Rattle.joint_machine.specs.Run.{thread_number}
 use Rattle.joint_machine.specs.Told.{Told, nothing}
 use Rattle.joint_laws.specs.ManagedInvariants.{ReplayInvariant}
-use Rattle.joint_laws.specs.Spans.{TellsNamed, TellsNoneFreed}
+use Rattle.joint_laws.specs.Spans.{TellsNamed}
 use Rattle.joint_laws.proofs.ManagedMoves.{GoesOn, managed_line-goes_on}
 use Rattle.joint_laws.proofs.PlainReplies.{IsPlain}
 use Rattle.joint_laws.proofs.SpansTold.{HasSpan, IsPlainEntry, plain-entry}
@@ -36,8 +36,8 @@ use Rattle.known_laws.specs.Known.{pinned}
 use Rattle.known_laws.proofs.Conditions.{gripped_is_new, made_is_new}
 use Rattle.known_laws.proofs.FrozenPasts.{goes_on}
 use Rattle.check_laws.specs.Laws.{IsNoRefusal}
-use Rattle.check_laws.specs.Order.{AdoptCites, CallersData, CitesBy, DriverCites, MeetCites}
-use Rattle.managed_heap.specs.Steps.{CitesRightly, IsFresh, IsManagedStep, IsStepAct}
+use Rattle.check_laws.specs.Order.{AdoptCites, CallersData, CitesBy, MeetCites}
+use Rattle.managed_heap.specs.Steps.{IsFresh, IsManagedStep, IsStepAct}
 use Rattle.run_check.specs.Follows.{owed_after}
 use Rattle.run_check.specs.Judging.{IsStepped}
 
@@ -199,41 +199,6 @@ stepped-fresh s k r e c o cites v w = subst (λ z. IsFresh z o) (sym e) (by c o 
     by (P i) (op.Meet x sort n q h) v w = absurd v.0
     by C (op.Meet x sort n q h) v w = absurd v.0
     by c _ v w = tt
-
-some_cited : (cites : Option ℕ) (n : ℕ) → cites ≡ Some n → IsSome cites
-some_cited cites n e = subst IsSome (sym e) refl
-
-adopts_cite : (d : Doing) (p h : ℕ) (cites : Option ℕ) → AdoptCites d p h cites → IsSome cites
-adopts_cite (control.made n line p h sort f) q g cites w = some_cited cites n w.0
-adopts_cite control.free q g cites w = absurd w
-adopts_cite (control.lent n line h x) q g cites w = absurd w
-adopts_cite (control.gripped n line p h sort f) q g cites w = absurd w
-adopts_cite (control.given n line h) q g cites w = absurd w
-adopts_cite (control.met n line h) q g cites w = absurd w
-
-meets_cite : (d : Doing) (v : Var) (kind : Sort) (fields : ℕ) (q : PNum) (r : HNum) (cites : Option ℕ) → MeetCites d (op.Meet v kind fields q r) cites → IsSome cites
-meets_cite (control.gripped n line p g sort f) v kind fields q r cites w = some_cited cites n w.0
-meets_cite control.free v kind fields q r cites w = absurd w
-meets_cite (control.made n line p g sort f) v kind fields q r cites w = absurd w
-meets_cite (control.lent n line g x) v kind fields q r cites w = absurd w
-meets_cite (control.given n line g) v kind fields q r cites w = absurd w
-meets_cite (control.met n line g) v kind fields q r cites w = absurd w
-
-pub stepped-cites : (s : Linkage) (c : Thread) (o : Op) (cites : Option ℕ) → IsEvent c o → is_peer_event c o ≡ false → IsStepped o → CitesBy s c o cites → CitesRightly o cites
-stepped-cites s (M i) (op.Adopt x kind n q h) cites v p w k = adopts_cite (doing_at s.control i) q.0 h.0 cites k
-stepped-cites s (M i) (op.Meet x sort n q h) cites v p w k = meets_cite (doing_at s.control i) x sort n q h cites k
-stepped-cites s (M i) (op.Land h x) cites v p w k = absurd (true≢false p)
-stepped-cites s (M i) (op.Release h) cites v p w k = absurd (true≢false p)
-stepped-cites s (M i) _ cites v p w k = k
-stepped-cites s (P i) (op.Adopt x kind n q h) cites v p w k = absurd v.0
-stepped-cites s (P i) (op.Meet x sort n q h) cites v p w k = absurd v.0
-stepped-cites s (P i) _ cites v p w k = k
-stepped-cites s C (op.Adopt x kind n q h) cites v p w k = absurd v.0
-stepped-cites s C (op.Meet x sort n q h) cites v p w k = absurd v.0
-stepped-cites s C (op.Mirror z) cites v p w k = absurd (true≢false p)
-stepped-cites s C (op.Weaken z) cites v p w k = absurd (true≢false p)
-stepped-cites s C (op.Resolve z) cites v p w k = absurd w
-stepped-cites s C _ cites v p w k = k
 
 -- it frees nothing, and only the taking of notices answers a span
 pub plainly_named : (ms ps : List ℕ) (r : Reply) (told : Told) → IsPlainEntry r told → TellsNamed ms ps r told

@@ -1,13 +1,12 @@
 -- An entry of a plain step behind a past: the call may be made, and the replay follows the longer past. It is right
 -- exactly where it answers the same and, where it takes notices, the history has them.
-use Rattle.std.proofs.Common.{◌≡◌, ℕ, ◌+◌, ◌≤◌, Bool, true, false, List, ◌∷◌, length, Option, Some, None, refl, sym, ap, ◌∙◌, subst}
+use Rattle.std.proofs.Common.{◌≡◌, ◌≤◌, Bool, true, false, List, length, refl, sym, ap, ◌∙◌, subst}
 use Rattle.joint_machine.specs.declared.names.Span.{Span}
 use Rattle.joint_machine.specs.declared.events.Made.{Made}
 use Rattle.joint_machine.specs.declared.events.Reply.{Reply}
 use Rattle.joint_machine.specs.declared.events.Reply.TheVariants as says
 use Rattle.joint_machine.specs.Histories.{Finished, IsWithin, managed_numbers, peer_numbers, stretch}
 use Rattle.joint_machine.specs.Lines.{is_peer_event, is_read}
-use Rattle.joint_machine.specs.PinsTold.{is_pinned, no_pins, with_pins}
 use Rattle.joint_machine.specs.Linked.{Linkage}
 use Rattle.joint_machine.specs.ManagedReplay.{ManagedReplay, managed_answer}
 use Rattle.joint_machine.specs.Sides.{AddsLawful, managed_rules}
@@ -15,12 +14,11 @@ use Rattle.joint_machine.specs.Told.{Noted, nothing}
 use Rattle.joint_laws.specs.Spans.{IsStretch, TellsNamed}
 use Rattle.joint_laws.proofs.ManagedMoves.{GoesOn}
 use Rattle.check_laws.specs.Behind.{state_of}
-use Rattle.check_laws.specs.Laws.{IsNoRefusal}
 use Rattle.managed_heap.specs.Sides.{ManagedModel, as_side}
-use Rattle.managed_heap.specs.Steps.{CitesRightly, IsFresh, IsManagedStep}
+use Rattle.managed_heap.specs.Steps.{IsFresh, IsManagedStep}
 use Rattle.run_check.specs.declared.draws.Recorder.{Recorder}
 use Rattle.run_check.specs.declared.replays.Replay.{Replay}
-use Rattle.run_check.specs.Judging.{IsStepped, MayReply, next_noted}
+use Rattle.run_check.specs.Judging.{IsStepped, MayReply}
 use Rattle.run_check.proofs.Drawing.{counted, drawing}
 use Rattle.run_check.proofs.Longer.{stores-longer}
 use Rattle.run_check.proofs.Notices.{notices_fit}
@@ -29,7 +27,7 @@ use Rattle.run_check.proofs.OwnEntries.{IsMadeIn, pins-stay, plain-made}
 use Rattle.run_check.proofs.PastFacts.{past_kept, replay_kept}
 use Rattle.run_check.proofs.StaysMade.{stays_made}
 use Rattle.run_check.proofs.Untouched.{stepped-leaves}
-use Rattle.run_check.proofs.Stepping.{TakesSpan, managed_step, stepped-cites, stepped-data, stepped-fresh, stepped-goes_on, stepped-named, stepped-owed, stepped-stand, stepped-took, stepped-unpinned}
+use Rattle.run_check.proofs.Stepping.{TakesSpan, managed_step, stepped-data, stepped-fresh, stepped-goes_on, stepped-named, stepped-owed, stepped-stand, stepped-took, stepped-unpinned}
 
 module _ (h : Finished) (past : List Noted) (m : Made) (old : Replay) (may : MayReply h past old m) (p : is_peer_event m.caller m.op ≡ false) (e : is_read m.op ≡ false) (w : IsStepped m.op) where
   abbrev s : Linkage
@@ -41,9 +39,6 @@ module _ (h : Finished) (past : List Noted) (m : Made) (old : Replay) (may : May
 
   pub step_fresh : IsFresh old.managed.state m.op
   step_fresh = stepped-fresh s (past_kept h past may.next.so_far) old.managed.state may.sides.managed.state m.caller m.op m.cites may.next.turn.event may.next.cites
-
-  pub step_cites : CitesRightly m.op m.cites
-  step_cites = stepped-cites s m.caller m.op m.cites may.next.turn.event p w may.next.cites
 
   module _ (draw : Recorder) (managed : ManagedModel) (r : Reply) (adds : AddsLawful managed_rules drawing old.draw draw (as_side old.managed) (as_side managed) (answered m r) nothing) where
     abbrev made : Made

@@ -1,6 +1,6 @@
 -- The two lines of a managed thread with calls of their own: `weak` sets a cell, whose target is kept, and `take`
 -- empties the thread's pin. Each may be made behind the past, and is right exactly where it answers the same.
-use Rattle.std.proofs.Common.{◌≡◌, inl, inr, ℕ, ◌<◌, ◌≤◌, Bool, true, false, List, ◌∷◌, length, get_or, map, Option, Some, None, refl, sym, ap, ◌∙◌, subst, arith}
+use Rattle.std.proofs.Common.{◌≡◌, ℕ, ◌<◌, Bool, true, List, ◌∷◌, length, get_or, map, Option, Some, None, refl, sym, ap, ◌∙◌, subst, arith}
 use Rattle.std.specs.Prelude.{◌↔◌, slice_get, slice_set}
 use Rattle.std.specs.Option.{option_map}
 use Rattle.std.proofs.Math.ListN.{length-set}
@@ -14,20 +14,19 @@ use Rattle.joint_machine.specs.declared.names.Var.{Var}
 use Rattle.joint_machine.specs.declared.lines.Act.{Act}
 use Rattle.joint_machine.specs.declared.lines.Act.TheVariants as act
 use Rattle.joint_machine.specs.declared.events.Made.{Made}
-use Rattle.joint_machine.specs.declared.events.Op.{Op}
 use Rattle.joint_machine.specs.declared.events.Op.TheVariants as op
 use Rattle.joint_machine.specs.declared.events.Reply.{Reply}
 use Rattle.joint_machine.specs.declared.events.Reply.TheVariants as says
 use Rattle.joint_machine.specs.Heaps.{Answered, answer, place, slot}
 use Rattle.joint_machine.specs.Histories.{Finished, managed_numbers, peer_numbers}
-use Rattle.joint_machine.specs.Lines.{IsDriverAct, IsEvent, IsManagedThread, IsPeerAct, IsVar}
+use Rattle.joint_machine.specs.Lines.{IsDriverAct, IsEvent, IsPeerAct}
 use Rattle.joint_machine.specs.Linked.{Linkage}
 use Rattle.joint_machine.specs.Managed.{Managed, cell_set, pin_taken, weakened_to}
-use Rattle.joint_machine.specs.ManagedReplay.{ManagedReplay, managed_answer}
+use Rattle.joint_machine.specs.ManagedReplay.{ManagedReplay}
 use Rattle.joint_machine.specs.Run.{thread_number}
 use Rattle.joint_machine.specs.Sides.{AddsLawful, cell_target, managed_rules, object_or_none, step_made}
 use Rattle.joint_machine.specs.Told.{Noted, kept_pins, nothing}
-use Rattle.joint_machine.specs.PinsTold.{no_pins, with_pins}
+use Rattle.joint_machine.specs.PinsTold.{no_pins}
 use Rattle.joint_machine.proofs.Deciding.{none_some}
 use Rattle.joint_laws.specs.Spans.{TellsNamed}
 use Rattle.joint_laws.proofs.KeptPins.{take_by}
@@ -46,11 +45,11 @@ use Rattle.run_check.specs.declared.draws.Recorder.{Recorder}
 use Rattle.run_check.specs.declared.readers.Readers.{Readers}
 use Rattle.run_check.specs.declared.replays.Replay.{Replay}
 use Rattle.run_check.specs.Cells.{targets_after}
-use Rattle.run_check.specs.Follows.{StoresFollow, shown_pins}
+use Rattle.run_check.specs.Follows.{StoresFollow}
 use Rattle.run_check.specs.Judging.{MayReply, next_noted}
 use Rattle.run_check.proofs.Drawing.{counted, drawing}
 use Rattle.run_check.proofs.Longer.{managed-next}
-use Rattle.run_check.proofs.OneReply.{HasMade, IsSame, Judges}
+use Rattle.run_check.proofs.OneReply.{HasMade, Judges}
 use Rattle.run_check.proofs.OwnEntries.{IsMadeIn, pins-stay, plain-made, take-made}
 use Rattle.run_check.proofs.PastFacts.{replay_kept}
 use Rattle.run_check.proofs.Pins.{emptied, pin_stands, shown-set, shown-slot, stand_bare}
@@ -154,10 +153,6 @@ weakly i index k v reply = step_made (M i) index (weak_op k v) reply None
 module _ (h : Finished) (past : List Noted) (old : Replay) (i index : ℕ) (k : Cell) (v : Var) (reply : Reply) (may : MayReply h past old (weakly i index k v reply)) where
   abbrev s : Linkage
   s = state_of past
-
-  pub weak_word : (word : ℕ) → (word ≡ 0) ↔ (slice_get old.readers.targets k.0 ≡ Some None) → (word ≡ 0) ↔ (slot old.managed.state.managed.cells k.0 ≡ None)
-  weak_word word w = word_is old.readers.targets old.managed.state.managed.cells k.0 word (may.sides.stores.cells ∙ sym (ap (λ (z : ManagedReplay). z.managed.cells) may.sides.managed.state))
-      (let l = may.next.turn.event.0.1.0 in let n = may.sides.stores.many in omega (arith, l, n)) w
 
   module _ (draw : Recorder) (managed : ManagedModel) (r : Reply) (adds : AddsLawful managed_rules drawing old.draw draw (as_side old.managed) (as_side managed) (weakly i index k v r) nothing) where
     abbrev made : Made

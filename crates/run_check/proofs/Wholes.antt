@@ -1,6 +1,6 @@
 -- What a replay follows before the first entry, whether a managed entry gives the snap that is waited for, and whether
 -- nothing has to follow.
-use Rattle.std.proofs.Common.{◌≡◌, ℕ, ◌+◌, ◌<◌, ◌↔◌, Bool, true, false, not, ◌&&◌, List, [], ◌∷◌, length, Option, Some, None, refl, sym, ap, ◌∙◌, subst, replicate, true≢false}
+use Rattle.std.proofs.Common.{◌≡◌, ℕ, ◌<◌, ◌↔◌, Bool, true, false, not, ◌&&◌, List, [], Option, Some, None, refl, sym, ap, ◌∙◌, subst, replicate, true≢false}
 use Rattle.std.specs.Prelude.{is_some, MatchOption}
 use Rattle.std.proofs.lemmas.List.Elements.{All-nil}
 use Rattle.joint_machine.specs.declared.names.Cycle.{Cycle}
@@ -17,12 +17,11 @@ use Rattle.joint_machine.specs.declared.events.Reply.{Reply}
 use Rattle.joint_machine.specs.Histories.{Finished}
 use Rattle.joint_machine.specs.Lines.{is_peer_event, is_read}
 use Rattle.joint_machine.specs.Linked.{IsWhole}
-use Rattle.joint_machine.specs.ManagedReplay.{ManagedReplay, opening_replay}
+use Rattle.joint_machine.specs.ManagedReplay.{opening_replay}
 use Rattle.joint_machine.specs.Told.{Noted, Told, contraction_of, nothing}
 use Rattle.check_laws.specs.Behind.{GivesSnap, RepliesBehind, WaitsForSnap, state_of}
 use Rattle.check_laws.specs.Findings.{NothingFollows}
 use Rattle.check_laws.specs.Laws.{IsNoRefusal}
-use Rattle.check_laws.proofs.Tested.{read-unmanaged}
 use Rattle.caller_turns.specs.declared.stands.Part.{Part}
 use Rattle.caller_turns.specs.Shapes.{IsPartOf, TellsPhase, callers_of}
 use Rattle.caller_turns.specs.Turns.{AreDone, Callers}
@@ -30,8 +29,7 @@ use Rattle.caller_turns.proofs.Turning.{whole_tested}
 use Rattle.reader_counts.specs.Counts.{opening_counts}
 use Rattle.reader_counts.specs.Told.{AreCountsOf}
 use Rattle.reader_counts.proofs.Counted.{counts_on}
-use Rattle.peer_heap.specs.Sides.{PeerModel, opening_side}
-use Rattle.run_check.specs.declared.cycles.OpenCycle.{OpenCycle as Kept}
+use Rattle.peer_heap.specs.Sides.{opening_side}
 use Rattle.run_check.specs.declared.readers.Readers.{Readers}
 use Rattle.run_check.specs.declared.replays.Replay.{Replay}
 use Rattle.run_check.specs.Cycles.{CycleFollows}
@@ -81,9 +79,6 @@ module _ (past : List Noted) (r : Replay) (f : Follows past r) (part : Part) (p 
   pub follows-done : NothingFollows past → AreDone r.turns part.candidates
   follows-done n = whole.1 n.whole
 
-  pub follows-owed : NothingFollows past → r.readers.owed ≡ None
-  follows-owed n = owed-none past r.readers.owed f.callers.owed n.snapped
-
 -- a test that nothing is left
 pub none-left : (o : Option Cycle) (r : Bool) → is_some o ≡ not r → r ≡ true → o ≡ None
 none-left None r e q = refl
@@ -92,13 +87,6 @@ none-left (Some k) r e q = absurd (true≢false (e ∙ ap not q))
 pub left-none : (o : Option Cycle) (r : Bool) → is_some o ≡ not r → o ≡ None → r ≡ true
 left-none o true e q = refl
 left-none o false e q = absurd (true≢false (sym e ∙ ap is_some q))
-
--- what gives the snap is no managed entry, or that snap
-pub gives-peer : (past : List Noted) (m : Made) → is_peer_event m.caller m.op ≡ true → GivesSnap past (next_noted past m nothing)
-gives-peer past m p y = absurd (true≢false (sym y ∙ ap (λ b. not b && not (is_read m.op)) p))
-
-pub gives-read : (past : List Noted) (m : Made) → is_read m.op ≡ true → GivesSnap past (next_noted past m nothing)
-gives-read past m r y = absurd (true≢false (sym y ∙ read-unmanaged (next_noted past m nothing) r))
 
 pub gives-managed : (past : List Noted) (m : Made) → is_peer_event m.caller m.op ≡ false → is_read m.op ≡ false
     → ((k : ℕ) → WaitsForSnap past k → m.op ≡ op.Snap record { 0 = k }) ↔ GivesSnap past (next_noted past m nothing)

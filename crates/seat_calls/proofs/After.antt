@@ -15,7 +15,7 @@ use Rattle.order_table.specs.Tells.{GrowsByEntry}
 use Rattle.order_table.proofs.Free.{peer_stays}
 use Rattle.order_table.proofs.Gate.{stage_more}
 use Rattle.order_table.proofs.Says.{freed_more, target_more}
-use Rattle.seat_calls.specs.Gating.{HasEnded, HasOpened, IsOutside, OwesClearing}
+use Rattle.seat_calls.specs.Gating.{HasEnded, HasOpened, OwesClearing}
 use Rattle.seat_calls.specs.Paying.{IsPaid, IsPlain, OwesFreed}
 
 -- an entry that leaves its caller's pin leaves nothing to be stored there
@@ -81,10 +81,6 @@ owes_freed v w k g p unmarked c o =
       ap (λ ks. target ks c) g.role ∙ (target_more c (known v 0) k ∙ (ap (aims_at c (target (known v 0) c)) unmarked ∙ e)),
       freed_now m (sym (ap (λ z. frees_target z k.freed) e) ∙ h),
     )
-
--- the seat is outside, as it was, after an entry that leaves every pin
-pub outside_now : (v w : View) (r : ℕ) (k : KeptEntry) → IsPaid v w r k → deed_of_pin k ≡ stays → Settled v → IsOutside w
-outside_now v w r k p e s = let still = still_owes v w r k p e in record { outside = p.inside ∙ s.outside; clear = p.owes ∙ s.clear; stored = (still.0 ∙ s.stored.0, still.1 ∙ s.stored.1) }
 
 -- a snapshot's entry opens the cycle that the gate is held for
 pub has_opened : (v w : View) (k : KeptEntry) (c : ℕ) → GrowsByEntry v w 0 k → IsPaid v w 0 k → deed k.entry.made.op ≡ opens c → MayDo v (opens c) → HasOpened w

@@ -2,27 +2,16 @@
 use Rattle.std.proofs.Common.{◌≡◌, ◌⊎◌, ⊎_elim, ℕ, ◌+◌, ◌<◌, Bool, true, false, ◌||◌, List, [], ◌∷◌, ◌++◌, refl, sym, ap, ◌∙◌, subst, arith}
 use Rattle.std.specs.Prelude.{if◌then◌else◌, Option, Some, None}
 use Rattle.std.proofs.lemmas.Bool.{both_ways, cases_eq}
-use Rattle.joint_machine.specs.declared.names.Cell.{Cell}
 use Rattle.joint_machine.specs.declared.names.MNum.{MNum}
-use Rattle.joint_machine.specs.declared.names.Thread.{Thread}
-use Rattle.joint_machine.specs.declared.names.Thread.TheVariants.{M}
-use Rattle.joint_machine.specs.declared.names.Var.{Var}
-use Rattle.joint_machine.specs.declared.lines.Act.TheVariants as act
-use Rattle.joint_machine.specs.declared.events.Op.{Op}
-use Rattle.joint_machine.specs.declared.events.Op.TheVariants as op
 use Rattle.order_table.specs.declared.views.KeptEntry.{KeptEntry}
 use Rattle.order_table.specs.declared.views.View.{View}
-use Rattle.order_table.specs.Owed.{has, is_freed, mark, marked, says_word, target, target_told, word_by}
+use Rattle.order_table.specs.Owed.{has, is_freed, marked, says_word, target, word_by}
 use Rattle.order_table.specs.Rule.{CellIs, IsFresh, IsStale}
 use Rattle.order_table.specs.Views.{known}
 use Rattle.seat_calls.specs.Paying.{Agrees}
 use Rattle.order_table.specs.Tells.{BeginsOneHistory}
 use Rattle.order_table.proofs.Gate.{if_true, if_false}
 use Rattle.order_table.proofs.Says.{freed_more, some_is, target_aimed}
-
--- the mark of a managed thread's `weak`
-pub set_mark : (t : Thread) (o : Op) (aim : Option MNum) (n : ℕ) (k : Cell) (v : Var) (x : MNum) → t ≡ M n → o ≡ op.Line (act.Weak k v) → aim ≡ Some x → mark o (target_told t o aim) ≡ Some (k.0, x.0)
-set_mark t o aim n k v x a b c = ap (λ (z : Thread × Op × Option MNum). mark z.1 (target_told z.0 z.1 z.2)) (λ i. (a i, b i, c i))
 
 -- the word of a cell that was just set
 pub says_set : (ml : List KeptEntry) (k : KeptEntry) (c m : ℕ) → marked k ≡ Some (c, m) → is_freed ml m ≡ false → k.freed ≡ [] → says_word (ml ++ k ∷ []) c ≡ m + 1
