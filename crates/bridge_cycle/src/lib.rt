@@ -15,7 +15,8 @@
 //       mark, sweep, restore, resolve                one phase; refused where it isn't its turn
 //       cycle                                        all eight
 //       run_gap                                      all eight, and between two of them somebody else has a turn
-//       line                                         a script line of `c`: a phase word, which makes an entry also where it is refused, or `finalise`
+//       line                                         a script line of `c`: a phase word, which makes an entry also where
+//                                                        it is refused, or `finalise`
 //       end                                          what is left of an open cycle
 //       graph                                        the open cycle's dead part
 //       hear, tell                                   what other callers know, and what they are told

@@ -3,12 +3,15 @@
 //
 // A run of the program is one top call, `bridge_main`:
 //
-//     words behind the program's name        serial, threads, compare, grefs, leaks, check or gen with its three pairs, else the usage line
-//       source, read to its end              a script, else the line of its first fault; `gen` makes its script and reads nothing, `leaks` reads a log and
-//                                                `check` a report
+//     words behind the program's name        serial, threads, compare, grefs, leaks, check or gen with its three pairs,
+//                                                else the usage line
+//       source, read to its end              a script, else the line of its first fault; `gen` makes its script and
+//                                                reads nothing, `leaks` reads a log and `check` a report
 //         the run, by `script_runs`          one history of all that both heaps and the driver did
-//           sink                             the report of the history, for `gen` its summary, for `compare` the listing of its cycles, for `grefs` its
-//                                                reference log; or for `leaks` what the log that was read never releases, for `check` what the report is
+//           sink                             the report of the history, for `gen` its summary, for `compare` the
+//                                                listing of its cycles, for `grefs` its reference log; or for `leaks`
+//                                                what the log that was read never releases, for `check` what the report
+//                                                is
 //
 // and the answer is the exit status. `run_program` makes that call for the words of a process.
 //

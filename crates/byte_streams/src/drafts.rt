@@ -273,7 +273,8 @@ impl Line {
         self.len = at + len;
     }
 
-    /// Puts a part's word and a number behind it. The part's digits are the number's afterwards, where it can have them.
+    /// Puts a part's word and a number behind it. The part's digits are the number's afterwards, where it can have
+    /// them.
     #[inline(always)]
     pub fn part(&mut self, part: &mut Part, n: u64)
         requires { 56 ≤ self.old.room }

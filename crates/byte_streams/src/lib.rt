@@ -17,8 +17,8 @@
 // like, each of which asks for the room that it needs. Another crate puts its own words together of these. A long text
 // is put together piece by piece: `make_room` before each gives the sink what was put together, where there is little
 // room left, and `flush` at the end the rest. Numbers that are mostly counted up come from a `Count`, which keeps the
-// decimal text of the last one; a word with such a number behind it is a `Part`, which is put as one block with the last
-// two digits behind it. `write_text` writes a text that is at hand.
+// decimal text of the last one; a word with such a number behind it is a `Part`, which is put as one block with the
+// last two digits behind it. `write_text` writes a text that is at hand.
 //
 // `read_up_to` takes all that a source has, but no more than one byte past a limit.
 //

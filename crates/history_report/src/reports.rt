@@ -121,8 +121,8 @@ fn write_spelled<K: Sink>(
     write_entry(h, entry, counts, line, out)
 }
 
-// Writes the line of an entry that was put together: mostly it tells of a candidate. It is a call, so that the loop over
-// all entries stays as it is for those that are kept.
+// Writes the line of an entry that was put together: mostly it tells of a candidate. It is a call, so that the loop
+// over all entries stays as it is for those that are kept.
 #[inline(never)]
 fn write_told<K: Sink>(
     h: &History,

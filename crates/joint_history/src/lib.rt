@@ -2,7 +2,7 @@
 //
 // The life of a run:
 //
-//     Order::new, Shared::new                      both sides without objects, and the desk with a caller for each thread
+//     Order::new, Shared::new                      both sides without objects, the desk with a caller for each thread
 //       Desk::caller                               a thread's caller, given out once, or the driver's
 //         Shared::managed, peer                    an operation of the caller's thread: its events, one after another
 //         Shared::read_now, read_wait              a weak read of a managed thread, without a lock

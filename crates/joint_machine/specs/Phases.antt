@@ -74,8 +74,8 @@ pub record AreTimes (w : PhaseWord) (n : ℕ) (entries : List Entry) : Type 0 wh
 
 -- the events of `mark`: a begin; before it, where a peer thread's marking is open, a sweep that ends that marking
 abbrev pub AreMarkAfterSweep : List Entry → Type 0
-AreMarkAfterSweep es = (sweep : Entry) × (begin : Entry) × (j : ℕ) × (s : Span) × (es ≡ sweep ∷ begin ∷ [])
-    × (sweep.made.op ≡ op.Sweep) × (sweep.made.reply ≡ says.Swept record { 0 = j } s) × IsEventOf word.Mark begin.made.op
+AreMarkAfterSweep es = (end : Entry) × (begin : Entry) × (j : ℕ) × (s : Span) × (es ≡ end ∷ begin ∷ [])
+    × (end.made.op ≡ op.Sweep) × (end.made.reply ≡ says.Swept record { 0 = j } s) × IsEventOf word.Mark begin.made.op
 
 -- the events of `restore`: a restore for each candidate, and a clear
 abbrev pub AreRestores : ℕ → List Entry → Type 0

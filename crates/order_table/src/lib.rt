@@ -14,7 +14,8 @@
 // The life of an order:
 //
 //     Order::new                    one seat, which owns all lines, and nothing is known
-//       share, hand, note           a seat gives a role, a caller's pass, or knowledge alone to a new seat, which knows what it knows
+//       share, hand, note           a seat gives a role, a caller's pass, or knowledge alone to a new seat, which knows
+//                                       what it knows
 //         append                    the owner of a role makes an entry there, for a caller whose pass it holds
 //       learn                       a seat takes another one in, with all that it owns and knows
 //     finish                        the seat that owns all lines again knows the whole history
@@ -43,13 +44,15 @@
 // for the pin of each of eight readers. A cell's word is 0 for unset, 1 for gone, and else its object's number and 1; a
 // pin's is 0 or its object's number and 1.
 //
-//     enter                         a reader puts its bit into the gate word, and is inside; or the gate is held for a cycle, and the reader may say so
+//     enter                         a reader puts its bit into the gate word, and is inside; or the gate is held for a
+//                                       cycle, and the reader may say so
 //       load_cell                   the word of a cell: while somebody is inside no object is freed
 //       append                      the read's entry, in the reader's own list
 //       store_pin                   the object that it gave, which the next snapshot keeps
 //     leave                         the bit is taken out
 //
-//     try_close_gate                the owner of the managed list holds the gate for the next cycle, if no reader is inside
+//     try_close_gate                the owner of the managed list holds the gate for the next cycle, if no reader is
+//                                       inside
 //       scan_pins                   the eight pins, as the snapshot keeps them
 //       append, write_cell          the cycle's entries, and 1 into each cell whose object was freed
 //     open_gate                     once the cycle has ended

@@ -3,7 +3,8 @@
 // include/bridge_pass.h what it has to keep.
 //
 //     struct pass_counts counts;
-//     uint32_t status = pass_rows(kinds, nodes, row_starts, nodes, targets, edges, 0, starts, nodes, members, nodes, xrefs, room, &counts);
+//     uint32_t status = pass_rows(kinds, nodes, row_starts, nodes, targets, edges, 0,
+//                                 starts, nodes, members, nodes, xrefs, room, &counts);
 //
 // `pass_rows` takes the graph as a runtime can write it while it walks its objects: where each node's references begin
 // in one list of targets. `pass_pairs` takes it as pairs of nodes in any order. Both make a graph of the library's own

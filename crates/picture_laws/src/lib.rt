@@ -5,8 +5,8 @@
 //
 // These are laws of definitions, and nothing runs. `specs/Paths.antt` says over which arrows a path goes: it passes by
 // weak global references and by the references that a cycle adds, which are drawn too. `specs/Standing.antt` says which
-// references stand after some entries of a history, and `specs/Seeing.antt` when entries are in order: by what a checker
-// finds of their history.
+// references stand after some entries of a history, and `specs/Seeing.antt` when entries are in order: by what a
+// checker finds of their history.
 #![tactic(auto)]
 
 ghost use Rattle.picture_laws.specs.Laws.{PicturesTell};

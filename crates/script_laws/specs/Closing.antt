@@ -1,5 +1,5 @@
--- No cycle is abandoned, and behind each that is opened comes a resolve before the next one is opened: what the lines of
--- a script tell by themselves. That it is the cycle's own resolve is told by the driver's order.
+-- No cycle is abandoned, and behind each that is opened comes a resolve before the next one is opened: what the lines
+-- of a script tell by themselves. That it is the cycle's own resolve is told by the driver's order.
 use Rattle.std.specs.Prelude.{List, [], ◌∷◌}
 use Rattle.joint_machine.specs.declared.events.Op.{Op}
 use Rattle.joint_machine.specs.declared.events.Op.TheVariants as op

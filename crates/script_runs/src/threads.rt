@@ -100,8 +100,8 @@ fn run_by_desk<N: OrderName + Send + Sync, R: Threads + Wait + Sync, T: Turnstil
     Ok(callers)
 }
 
-/// Runs the lines of each thread of a script in a thread of its own, by the callers of one order, and answers both sides
-/// and the callers, of which each is given back or still at the desk. Answers `AllocError` where there is no memory,
+/// Runs the lines of each thread of a script in a thread of its own, by the callers of one order, and answers both
+/// sides and the callers, of which each is given back or still at the desk. Answers `AllocError` where there is no memory,
 /// after all jobs have ended.
 pub(crate) fn run_lines<N: OrderName + Send + Sync, R: Threads + Wait + Sync, T: Turnstile + Sync>(
     rt: &R,

@@ -485,8 +485,8 @@ fn eight_threads_read_at_once_while_cycles_go_on(rt: HostRuntime) -> Result<(), 
 // The objects in the pins of m1 to m8, by the thread's number; 0 where a pin is empty.
 type Pins = [u32; 9];
 
-// What the pin of an entry's thread has behind it, where the entry sets it: the object that a read gave, or nothing after
-// a `take`.
+// What the pin of an entry's thread has behind it, where the entry sets it: the object that a read gave, or nothing
+// after a `take`.
 fn pin_after(entry: &Entry) -> Option<u32> {
     match entry.made.op {
         Op::Line(Act::Read { .. } | Act::Await { .. }) => match entry.made.reply {

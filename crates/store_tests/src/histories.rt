@@ -21,8 +21,8 @@ const BEGUN: Made = Made {
     cites: None,
 };
 
-// What stands in a test function itself is little: it makes a list, gives it to a function that has it by reference, and
-// lets it go by a call, so that there is one way out.
+// What stands in a test function itself is little: it makes a list, gives it to a function that has it by reference,
+// and lets it go by a call, so that there is one way out.
 
 // A new list has no entry, and room for one after a reserve.
 fn is_new(entries: &mut Entries) -> Result<bool, AllocError> {

@@ -1,8 +1,10 @@
 // Weak reads on real threads, shown and measured.
 //
-//     weak_reads time 1000 4 20000       four threads read for a second in each way, over a heap of 20,000 objects: reads a second, the longest
-//                                        and all but the longest thousandth, cycles a second, and how many reads answered that one was open
-//     weak_reads count 20 2 300          the same for 20 milliseconds, and only what is left then, which is the same whatever the schedule
+//     weak_reads time 1000 4 20000       four threads read for a second in each way, over a heap of 20,000 objects:
+//                                        reads a second, the longest and all but the longest thousandth, cycles a
+//                                        second, and how many reads answered that one was open
+//     weak_reads count 20 2 300          the same for 20 milliseconds, and only what is left then, which is the same
+//                                        whatever the schedule
 //
 // One race for each way of reading: `read_now`, which takes no lock and answers at once; the same where the thread's
 // pin is filled; `read_wait`, which takes no lock and waits for the end of a cycle; `managed`, the same read under the

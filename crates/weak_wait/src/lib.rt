@@ -5,7 +5,8 @@
 // so a read is a handful of atomic steps:
 //
 //     load_pin                    a pin that is still filled is what the read answers
-//     enter                       the reader's bit goes into the gate word; where a cycle holds the gate, the read answers `Pending`
+//     enter                       the reader's bit goes into the gate word; where a cycle holds the gate, the read
+//                                     answers `Pending`
 //     load_cell                   unset, gone, or an object, which isn't freed while the reader is inside
 //     append                      the read's entry
 //     store_pin, leave            the object is pinned, and the reader goes outside
