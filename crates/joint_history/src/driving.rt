@@ -32,7 +32,6 @@ use order_table::OrderName;
 use peer_heap::Swept;
 use std::alloc::AllocError;
 use std::sync::Wait;
-use std::thread::yield_now;
 
 impl<N: OrderName, K: Keeps<N>> Shared<N, K> {
     // Makes a step of a side for the driver, in one hold of the side's lock.
@@ -189,7 +188,7 @@ impl<N: OrderName, K: Keeps<N>> Shared<N, K> {
     {
         for _ in rt.forever() {
             match self.try_snap(rt, driver, index) {
-                Err(SnapFault::NotClosed) => yield_now(),
+                Err(SnapFault::NotClosed) => K::give_way(),
                 tried => return tried,
             }
         }
@@ -247,7 +246,7 @@ impl<N: OrderName, K: Keeps<N>> Shared<N, K> {
             if self.slice(rt, driver) {
                 return;
             }
-            yield_now();
+            K::give_way();
         }
         unreachable!()
     }

@@ -6,6 +6,7 @@ use order_table::OrderName;
 use peer_heap::PeerSide;
 use std::cell::{RefCell, RefMut};
 use std::sync::{Mutex, MutexGuard, Wait};
+use std::thread::yield_now;
 
 /// Keeps a value, which one caller at a time has in hand.
 pub trait Keep<T>: Drop {
@@ -85,6 +86,9 @@ pub trait Keeps<N: OrderName> {
     type Managed: Keep<Locked<N, ManagedSide>>;
 
     type Peers: Keep<Locked<N, PeerSide>>;
+
+    /// Lets other threads go on between two holds, where there are some.
+    fn give_way();
 }
 
 /// Behind locks, for threads that share the sides.
@@ -94,6 +98,10 @@ impl<N: OrderName> Keeps<N> for Locks {
     type Managed = Mutex<Locked<N, ManagedSide>>;
 
     type Peers = Mutex<Locked<N, PeerSide>>;
+
+    fn give_way() {
+        yield_now();
+    }
 }
 
 /// In cells, for one thread that has the sides alone: it pays for no lock.
@@ -103,4 +111,7 @@ impl<N: OrderName> Keeps<N> for Alone {
     type Managed = RefCell<Locked<N, ManagedSide>>;
 
     type Peers = RefCell<Locked<N, PeerSide>>;
+
+    // Nobody else has anything to go on with, and a yield is a call of the system.
+    fn give_way() {}
 }
