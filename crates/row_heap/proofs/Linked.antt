@@ -36,10 +36,10 @@ pub pairs-len : (list : List Reference) → length (pairs_in list) ≡ length li
 pairs-len list = length-map list pair_of
 
 -- where an end's references begin, as it is seen
-pub last-at : (list : List Reference) (objects temporaries : List ℕ) (seen : List Bool) (links : List ℕ) (room capacity : ℕ) (v : Linked) (e : exact.End) (n : ℕ)
-    → linked_of list temporaries seen links room ≡ v → AreLinked list objects temporaries seen links room capacity → n ≡ first_in objects temporaries e
+pub last-at : (list : List Reference) (objects temporaries : List ℕ) (seen : List Bool) (links : List ℕ) (room capacity places : ℕ) (v : Linked) (e : exact.End) (n : ℕ)
+    → linked_of list temporaries seen links room ≡ v → AreLinked list objects temporaries seen links room capacity places → n ≡ first_in objects temporaries e
     → IsLastBelow v.refs e (length v.refs) n
-last-at list objects temporaries seen links room capacity v e n view a is =
+last-at list objects temporaries seen links room capacity places v e n view a is =
     subst (λ (l : Linked). IsLastBelow l.refs e (length l.refs) n) view
     (subst (λ k. IsLastBelow (pairs_in list) e k n) (sym (pairs-len list)) (subst (λ k. IsLastBelow (pairs_in list) e (length list) k) (sym is) (a.firsts e)))
 
@@ -74,11 +74,7 @@ last-own refs a b = record {
   there = λ one. (b, (let e : length refs + 1 - 1 ≡ length refs = omega arith in rw e (push-at_new refs (a, b))));
 }
 
--- an end that may have references has a place for where they begin
-pub end-place : (objects temporaries temps : ℕ) (e : exact.End) → IsEnd temps e → temps ≡ temporaries → 65536 ≤ objects → HasPlace objects temporaries e
-end-place objects temporaries temps (exact.node x) w same reach = omega (arith, w, reach)
-end-place objects temporaries temps (exact.temporary t) w same reach = omega (arith, w, same)
-
+-- more places, and more temporaries, are enough for the same ends
 pub place-longer : (objects temporaries more others : ℕ) (e : exact.End) → objects ≤ more → temporaries ≤ others → HasPlace objects temporaries e → HasPlace more others e
 place-longer objects temporaries more others (exact.node x) a b w = omega (arith, w, a)
 place-longer objects temporaries more others (exact.temporary t) a b w = omega (arith, w, b)
@@ -88,19 +84,19 @@ end-longer temps more (exact.node x) a w = w
 end-longer temps more (exact.temporary t) a w = omega (arith, w, a)
 
 -- a reference is pushed
-pub AreLinked-pushed : (list after : List Reference) (objects reaching temporaries others : List ℕ) (seen : List Bool) (links : List ℕ) (room capacity more : ℕ) (r : Reference)
-    → AreLinked list objects temporaries seen links room capacity → 1 ≤ room
+pub AreLinked-pushed : (list after : List Reference) (objects reaching temporaries others : List ℕ) (seen : List Bool) (links : List ℕ) (room capacity more places spaces : ℕ) (r : Reference)
+    → AreLinked list objects temporaries seen links room capacity places → 1 ≤ room
     → HasPlace (length objects) (length temporaries) (end_of r.from) → IsEnd (length temporaries) (end_of r.to)
     → IsLastBelow (pairs_in list) (end_of r.from) (length list) r.next → after ≡ list ++ r ∷ [] → (length reaching ≡ length objects) × (length others ≡ length temporaries)
     → first_in reaching others (end_of r.from) ≡ length list + 1 → ((e : exact.End) → e ≢ end_of r.from → first_in reaching others e ≡ first_in objects temporaries e)
-    → more ≡ capacity → AreLinked after reaching others seen links (room - 1) more
-AreLinked-pushed list after objects reaching temporaries others seen links room capacity more r a one from to next is len here rest cap =
+    → more ≡ capacity → spaces ≡ places → AreLinked after reaching others seen links (room - 1) more spaces
+AreLinked-pushed list after objects reaching temporaries others seen links room capacity more places spaces r a one from to next is len here rest cap same =
     let p : exact.End × exact.End = (end_of r.from, end_of r.to) in
     let count : length (pairs_in list) ≡ length list = pairs-len list in
     let pairs : pairs_in (list ++ r ∷ []) ≡ pairs_in list ++ p ∷ [] = map-append pair_of list (r ∷ []) in
     let longer : length (pairs_in list ++ p ∷ []) ≡ length (list ++ r ∷ []) = ap length (sym pairs) ∙ pairs-len (list ++ r ∷ []) in
     let whole : length (list ++ r ∷ []) ≡ length list + 1 = length-append list (r ∷ []) in
-    subst (λ l. AreLinked l reaching others seen links (room - 1) more) (sym is) record {
+    subst (λ l. AreLinked l reaching others seen links (room - 1) more spaces) (sym is) record {
       firsts = λ e. subst (λ (l : List (exact.End × exact.End)). IsLastBelow l e (length (list ++ r ∷ [])) (first_in reaching others e)) (sym pairs)
           (subst (λ n. IsLastBelow (pairs_in list ++ p ∷ []) e n (first_in reaching others e)) longer (elim (end-or e (end_of r.from)) [
             | inl same ↦ subst (λ z. IsLastBelow (pairs_in list ++ p ∷ []) z (length (pairs_in list ++ p ∷ [])) (first_in reaching others z)) (sym same)
@@ -127,7 +123,7 @@ AreLinked-pushed list after objects reaching temporaries others seen links room 
       flags = a.flags ∙ sym len.1;
       chains = a.chains ∙ sym len.1;
       few = omega (arith, a.few, len.1);
-      reach = λ w. omega (arith, a.reach one, len.0);
+      reach = λ w. omega (arith, a.reach one, same);
       space = omega (arith, a.space, one, whole, cap);
       most = omega (arith, a.most, one, whole);
     }
@@ -142,9 +138,9 @@ seen-pushed list after temporaries others seen links room r v view is len =
     ∙ ap (λ (w : Linked). record w { refs = w.refs ++ pair_of r ∷ []; room = w.room - 1 }) view)
 
 -- no reference
-pub AreLinked-none : (list : List Reference) (objects temporaries : List ℕ) (seen : List Bool) (links : List ℕ) (capacity : ℕ)
-    → list ≡ [] → objects ≡ [] → temporaries ≡ [] → seen ≡ [] → links ≡ [] → AreLinked list objects temporaries seen links 0 capacity
-AreLinked-none list objects temporaries seen links capacity l o t s k = rw (l, o, t, s, k) record {
+pub AreLinked-none : (list : List Reference) (objects temporaries : List ℕ) (seen : List Bool) (links : List ℕ) (capacity places : ℕ)
+    → list ≡ [] → objects ≡ [] → temporaries ≡ [] → seen ≡ [] → links ≡ [] → AreLinked list objects temporaries seen links 0 capacity places
+AreLinked-none list objects temporaries seen links capacity places l o t s k = rw (l, o, t, s, k) record {
   firsts = λ e. record { below = none e; none = λ i f from to at. absurd (omega (arith, to)); there = λ one. absurd (omega (arith, one, none e)) };
   nexts = λ i r at. (let f : ⊥ = cc in absurd f);
   from = λ i r at. (let f : ⊥ = cc in absurd f);
@@ -175,14 +171,14 @@ firsts-filled old new n m le is x = rw (is, take_all) (by old x)
     by (y ∷ l) (suc x) = by l x
 
 -- more room, for references and temporaries
-pub AreLinked-roomy : (list after : List Reference) (objects reaching temporaries others : List ℕ) (seen flags : List Bool) (links chains : List ℕ) (room more capacity space : ℕ)
-    → AreLinked list objects temporaries seen links room capacity → after ≡ list
+pub AreLinked-roomy : (list after : List Reference) (objects reaching temporaries others : List ℕ) (seen flags : List Bool) (links chains : List ℕ) (room more capacity space places spaces : ℕ)
+    → AreLinked list objects temporaries seen links room capacity places → after ≡ list
     → ((x : ℕ) → slice_index_or reaching x 0 ≡ slice_index_or objects x 0) → length objects ≤ length reaching
     → ((t : ℕ) → slice_index_or others t 0 ≡ slice_index_or temporaries t 0) → length temporaries ≤ length others
-    → length flags ≡ length others → length chains ≡ length others → length others ≤ 4294901760 → (1 ≤ more → 65536 ≤ length reaching)
-    → length list + more ≤ space → length list + more ≤ 4294967295 → AreLinked after reaching others flags chains more space
-AreLinked-roomy list after objects reaching temporaries others seen flags links chains room more capacity space a is reached longer
-    kept more_temps fs cs few reach fits most = subst (λ l. AreLinked l reaching others flags chains more space) (sym is) record {
+    → length flags ≡ length others → length chains ≡ length others → length others ≤ 4294901760 → (1 ≤ more → 65536 ≤ spaces)
+    → length list + more ≤ space → length list + more ≤ 4294967295 → AreLinked after reaching others flags chains more space spaces
+AreLinked-roomy list after objects reaching temporaries others seen flags links chains room more capacity space places spaces a is reached longer
+    kept more_temps fs cs few reach fits most = subst (λ l. AreLinked l reaching others flags chains more space spaces) (sym is) record {
       firsts = λ e. subst (λ n. IsLastBelow (pairs_in list) e (length list) n) (sym (same e)) (a.firsts e);
       nexts = a.nexts;
       from = λ i r at. place-longer (length objects) (length temporaries) (length reaching) (length others) (end_of r.from) longer more_temps (a.from i r at);
@@ -225,21 +221,23 @@ from-Contains (r ∷ list) zero e f at = subst (Contains (end_of r.from ∷ map 
 from-Contains (r ∷ list) (suc i) e f at = Contains-there e (end_of r.from) (map (λ (q : Reference). end_of q.from) list) (from-Contains list i e f at)
 
 -- the references are gone, and no end has one
-pub AreLinked-cleared : (list after : List Reference) (objects reaching temporaries others : List ℕ) (seen : List Bool) (links : List ℕ) (room capacity more : ℕ)
-    → AreLinked list objects temporaries seen links room capacity → after ≡ [] → (length reaching ≡ length objects) × (length others ≡ length temporaries)
-    → FirstsCleared (map (λ (r : Reference). end_of r.from) list) (first_in objects temporaries) (first_in reaching others) → more ≡ capacity → AreLinked after reaching others seen links room more
-AreLinked-cleared list after objects reaching temporaries others seen links room capacity more a is len c cap = subst (λ l. AreLinked l reaching others seen links room more) (sym is) record {
-  firsts = λ e. record { below = omega (arith, none e); none = λ i f from to at. absurd (omega (arith, to)); there = λ one. absurd (omega (arith, one, none e)) };
-  nexts = λ i r at. (let f : ⊥ = cc in absurd f);
-  from = λ i r at. (let f : ⊥ = cc in absurd f);
-  to = λ i r at. (let f : ⊥ = cc in absurd f);
-  flags = a.flags ∙ sym len.1;
-  chains = a.chains ∙ sym len.1;
-  few = omega (arith, a.few, len.1);
-  reach = λ w. omega (arith, a.reach w, len.0);
-  space = omega (arith, a.space, cap);
-  most = omega (arith, a.most);
-}
+pub AreLinked-cleared : (list after : List Reference) (objects reaching temporaries others : List ℕ) (seen : List Bool) (links : List ℕ) (room capacity more places spaces : ℕ)
+    → AreLinked list objects temporaries seen links room capacity places → after ≡ [] → (length reaching ≡ length objects) × (length others ≡ length temporaries)
+    → FirstsCleared (map (λ (r : Reference). end_of r.from) list) (first_in objects temporaries) (first_in reaching others) → more ≡ capacity → spaces ≡ places
+    → AreLinked after reaching others seen links room more spaces
+AreLinked-cleared list after objects reaching temporaries others seen links room capacity more places spaces a is len c cap same =
+    subst (λ l. AreLinked l reaching others seen links room more spaces) (sym is) record {
+      firsts = λ e. record { below = omega (arith, none e); none = λ i f from to at. absurd (omega (arith, to)); there = λ one. absurd (omega (arith, one, none e)) };
+      nexts = λ i r at. (let f : ⊥ = cc in absurd f);
+      from = λ i r at. (let f : ⊥ = cc in absurd f);
+      to = λ i r at. (let f : ⊥ = cc in absurd f);
+      flags = a.flags ∙ sym len.1;
+      chains = a.chains ∙ sym len.1;
+      few = omega (arith, a.few, len.1);
+      reach = λ w. omega (arith, a.reach w, same);
+      space = omega (arith, a.space, cap);
+      most = omega (arith, a.most);
+    }
   where
     none : (e : exact.End) → first_in reaching others e ≡ 0
     none e = elim (c.others e) [

@@ -69,10 +69,11 @@ abbrev pub HasPlace : ℕ → ℕ → exact.End → Type 0
 HasPlace objects temporaries (exact.node x) = x < objects
 HasPlace objects temporaries (exact.temporary t) = t < temporaries
 
--- the references of each end are linked, the last one first, and each of their ends has a place; the temporaries have
--- their flags and links; and the list has the room that is said
+-- the references of each end are linked, the last one first, and each end that they lead from has a place; the
+-- temporaries have their flags and links; the list has the room that is said; and there is room for a place for each
+-- object, if the list has any
 pub record AreLinked (list : List Reference) (objects temporaries : List ℕ)
-    (seen : List Bool) (links : List ℕ) (room capacity : ℕ) : Type 0 where
+    (seen : List Bool) (links : List ℕ) (room capacity places : ℕ) : Type 0 where
   pub firsts : (e : exact.End) → IsLastBelow (pairs_in list) e (length list) (first_in objects temporaries e)
   pub nexts : (i : ℕ) (r : Reference) → slice_get list i ≡ Some r → IsLastBelow (pairs_in list) (end_of r.from) i r.next
   pub from : (i : ℕ) (r : Reference) → slice_get list i ≡ Some r
@@ -81,7 +82,7 @@ pub record AreLinked (list : List Reference) (objects temporaries : List ℕ)
   pub flags : length seen ≡ length temporaries
   pub chains : length links ≡ length temporaries
   pub few : length temporaries ≤ 4294901760
-  pub reach : 1 ≤ room → 65536 ≤ length objects
+  pub reach : 1 ≤ room → 65536 ≤ places
   pub space : length list + room ≤ capacity
   pub most : length list + room ≤ u32_max
 

@@ -4,9 +4,12 @@
 // it and from it. So what an object refers to is what its references lead to, directly or over temporaries.
 //
 // The references of one end are linked, the last one first, and a list by the number of the object or of the temporary
-// says where the last one stands. So a push is one step, and no end's references are looked for. A marking goes through
-// a temporary once: it keeps a flag for each that it has seen, and a link in the list of those that it still has to go
-// through.
+// says where the last one stands. So a push is one step, and no end's references are looked for. The list by objects
+// has room for each of them, and is as long as the objects that references led from need: a push makes it longer within
+// its room, so the memory behind it isn't written.
+//
+// A marking goes through a temporary once: it keeps a flag for each that it has seen, and a link in the list of those
+// that it still has to go through.
 
 ghost use Rattle.std.specs.Prelude.{◌≡◌, ◌≢◌, ℕ, ◌+◌, ◌-◌, ◌≤◌, ◌<◌, ◌++◌, [], ◌∷◌, List, Option, Some, Contains};
 ghost use Rattle.std.specs.Prelude.{false, OnOk, OnErr, All, nat_le, length, map, max, slice_get, slice_index_or};
@@ -145,8 +148,8 @@ impl Model for References {
 
     ghost view = { λ s. linked_of s.list.items s.temporaries.items s.seen.items s.links.items s.ready };
 
-    ghost invariant = { λ s. AreLinked s.list.items s.objects.items
-        s.temporaries.items s.seen.items s.links.items s.ready (vec_capacity s.list) };
+    ghost invariant = { λ s. AreLinked s.list.items s.objects.items s.temporaries.items
+        s.seen.items s.links.items s.ready (vec_capacity s.list) (vec_capacity s.objects) };
 }
 
 impl References {
@@ -207,6 +210,7 @@ impl References {
             { refs = self.old.refs ++ (end_of from, end_of to) ∷ []; room = self.old.room - 1 } }
     {
         let next = self.first(from);
+        make_place(&mut self.objects, from);
         let packed = PackedReference::pack(Reference { from, to, next });
         self.list.push_reserved(packed);
         let first = self.list.len() as u32;
@@ -293,16 +297,48 @@ impl References {
     }
 }
 
-// Makes a place for each number of an object. What a list has in a place stays, and it has 0 in the others.
+// Takes room for a place for each number of an object. It makes no place.
 fn reach(objects: &mut Vec<u32>) -> Result<(), AllocError>
-    ensures firsts { (x : ℕ) → slice_index_or objects.new.items x 0 ≡ slice_index_or objects.old.items x 0 }
-    ensures longer { length objects.old.items ≤ length objects.new.items }
-    ensures reach { OnOk result (65536 ≤ length objects.new.items) }
+    ensures items { objects.new.items ≡ objects.old.items }
+    ensures room { vec_capacity objects.old ≤ vec_capacity objects.new }
+    ensures reach { OnOk result (65536 ≤ vec_capacity objects.new) }
 {
-    if objects.len() < PLACES {
-        objects.resize(PLACES, 0)?;
+    let len = objects.len();
+    if len < PLACES {
+        objects.reserve(PLACES - len)?;
     }
     Ok(())
+}
+
+// Makes a place for where the references from an end begin, if it hasn't one. It takes no memory.
+#[inline(always)]
+fn make_place(objects: &mut Vec<u32>, e: End)
+    requires room { 65536 ≤ vec_capacity objects.old }
+    requires small { IsSmall e }
+    ensures firsts { (x : ℕ) → slice_index_or objects.new.items x 0 ≡ slice_index_or objects.old.items x 0 }
+    ensures longer { length objects.old.items ≤ length objects.new.items }
+    ensures room { vec_capacity objects.old ≤ vec_capacity objects.new }
+    ensures place { (temps : ℕ) → IsEnd temps (end_of e) → HasPlace (length objects.new.items) temps (end_of e) }
+{
+    if let End::Object(x) = e {
+        let x = x as usize;
+        if x >= objects.len() {
+            lengthen(objects, x);
+        }
+    }
+}
+
+// Makes the places up to a number, within the room that there is. What the list has in a place stays, and it has 0 in
+// the further ones.
+#[inline(never)]
+fn lengthen(objects: &mut Vec<u32>, x: usize)
+    requires past { length objects.old.items ≤ x }
+    requires room { x < vec_capacity objects.old }
+    ensures firsts { (y : ℕ) → slice_index_or objects.new.items y 0 ≡ slice_index_or objects.old.items y 0 }
+    ensures len { length objects.new.items ≡ x + 1 }
+    ensures room { vec_capacity objects.old ≤ vec_capacity objects.new }
+{
+    let _ = objects.resize(x + 1, 0);
 }
 
 // Makes so many temporaries, if there are fewer. The further ones weren't seen, and have no references.
@@ -354,6 +390,7 @@ fn set_first(objects: &mut Vec<u32>, temporaries: &mut Vec<u32>, e: End, first: 
     requires { HasPlace (length objects.old.items) (length temporaries.old.items) (end_of e) }
     ensures len { (length objects.new.items ≡ length objects.old.items)
         × (length temporaries.new.items ≡ length temporaries.old.items) }
+    ensures room { vec_capacity objects.new ≡ vec_capacity objects.old }
     ensures here { first_in objects.new.items temporaries.new.items (end_of e) ≡ first }
     ensures others { (f : exact.End) → f ≢ end_of e
         → first_in objects.new.items temporaries.new.items f ≡ first_in objects.old.items temporaries.old.items f }
@@ -369,6 +406,7 @@ fn clear_firsts(list: &[PackedReference], objects: &mut Vec<u32>, temporaries: &
     requires { All (λ r. HasPlace (length objects.old.items) (length temporaries.old.items) (end_of r.from)) list.now }
     ensures len { (length objects.new.items ≡ length objects.old.items)
         × (length temporaries.new.items ≡ length temporaries.old.items) }
+    ensures room { vec_capacity objects.new ≡ vec_capacity objects.old }
     ensures cleared { FirstsCleared (map (λ r. end_of r.from) list.now)
         (first_in objects.old.items temporaries.old.items) (first_in objects.new.items temporaries.new.items) }
 {

@@ -8,7 +8,7 @@ use Rattle.row_heap.proofs.Linked.{FirstsCleared-none, FirstsCleared-next, place
 use Rattle.row_heap.proofs.references.clear_firsts.Goals as goal
 
 pub loop-packed-init : goal.loop-packed-init
-loop-packed-init c = record { len = (refl, refl); cleared = FirstsCleared-none _ }
+loop-packed-init c = record { len = (refl, refl); room = refl; cleared = FirstsCleared-none _ }
 
 pub set_first-requires : goal.set_first-requires
 set_first-requires c =
@@ -28,6 +28,7 @@ loop-packed-preserved c =
     let e = c.set_first.ensures in
     record {
       len = (e.len.0 ∙ v.len.0, e.len.1 ∙ v.len.1);
+      room = e.room ∙ v.room;
       cleared = rw (more, map-append) (FirstsCleared-next (map (λ (q : Reference). end_of q.from) (take i xs))
           (end_of r.from) _ _ _ v.cleared (rw c.unpack-reference.ensures at e.here) (rw c.unpack-reference.ensures at e.others));
     }
