@@ -20,7 +20,7 @@ ghost use Rattle.gref_log.specs.Tracking.{made_lines, nothing_logged, with_line,
 
 use crate::tracked::{Move, Moves, Tracker};
 use byte_streams::{Failed, Sink};
-use joint_model::{HNum, History, PNum, PackedEntry, Step};
+use joint_model::{EntryParts, HNum, History, PNum, Step};
 use log_text::{LastNumbers, Log, LogDraft, LogLine, Mark, write_end, write_line, write_two};
 use std::alloc::{AllocError, Global};
 use std::marker::Model;
@@ -224,10 +224,11 @@ impl Making {
     // The lines of an entry. What goes by the end of a name is seen before the name is free, and what comes is on the
     // peer that it was given on.
     #[inline(always)]
-    fn take(&mut self, entry: &PackedEntry) -> Lines
+    fn take<E: EntryParts>(&mut self, entry: &E) -> Lines
         requires { 1 ≤ self.old.room }
         ensures lines { (ls : List LogLine)
-            → behind_lines (ls ++ made_lines result) self.new ≡ logged_after (behind_lines ls self.old) entry.now }
+            → behind_lines (ls ++ made_lines result) self.new ≡ logged_after
+            (behind_lines ls self.old) (E.entry entry.now) }
         ensures fits { All Fits (made_lines result) }
         ensures room { self.old.room ≤ self.new.room + 1 }
     {

@@ -6,7 +6,7 @@ ghost use Rattle.byte_streams.specs.Drafts.{AddsText};
 ghost use Rattle.history_report.specs.Candidates.{IsOfCandidate, candidate_text, front_text};
 
 use byte_streams::{Count, Line, Part};
-use joint_model::{HNum, Op, PackedEntry, Reply, Thread};
+use joint_model::{Entry, HNum, Op, Reply, Thread};
 use std::marker::Model;
 
 /// What such a line tells: a handle was weakened, of a cycle whose snapshot has that number; or one was restored, under
@@ -19,12 +19,12 @@ pub(crate) enum Candidate {
 
 // What the entry of a weakening tells.
 #[inline(always)]
-fn weakened(entry: &PackedEntry, h: HNum) -> Option<Candidate>
+fn weakened(entry: &Entry, h: HNum) -> Option<Candidate>
     requires caller { entry.now.made.caller ≡ Thread.C }
     requires op { entry.now.made.op ≡ Op.Weaken h }
     ensures { IfSome result (λ c. IsOfCandidate entry.now c) }
 {
-    match (*entry.reply(), entry.cites()) {
+    match (entry.made.reply, entry.made.cites) {
         (Reply::Ok, Some(snap)) => Some(Candidate::Weakened(h, snap)),
         _ => None,
     }
@@ -32,12 +32,12 @@ fn weakened(entry: &PackedEntry, h: HNum) -> Option<Candidate>
 
 // And that of a restore.
 #[inline(always)]
-fn restored(entry: &PackedEntry, h: HNum) -> Option<Candidate>
+fn restored(entry: &Entry, h: HNum) -> Option<Candidate>
     requires caller { entry.now.made.caller ≡ Thread.C }
     requires op { entry.now.made.op ≡ Op.Restore h }
     ensures { IfSome result (λ c. IsOfCandidate entry.now c) }
 {
-    match (*entry.reply(), entry.cites()) {
+    match (entry.made.reply, entry.made.cites) {
         (Reply::Renewed(given), None) => Some(Candidate::Restored(h, given)),
         _ => None,
     }
@@ -45,10 +45,10 @@ fn restored(entry: &PackedEntry, h: HNum) -> Option<Candidate>
 
 /// What an entry tells of a candidate's handle; None of most others.
 #[inline(always)]
-pub(crate) fn candidate_of(entry: &PackedEntry) -> Option<Candidate>
+pub(crate) fn candidate_of(entry: &Entry) -> Option<Candidate>
     ensures { IfSome result (λ c. IsOfCandidate entry.now c) }
 {
-    match (entry.caller(), *entry.op()) {
+    match (entry.made.caller, entry.made.op) {
         (Thread::C, Op::Weaken { h }) => weakened(entry, h),
         (Thread::C, Op::Restore { h }) => restored(entry, h),
         _ => None,

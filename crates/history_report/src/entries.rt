@@ -15,7 +15,7 @@ use bridge_script::{
 };
 use byte_streams::{Count, Line};
 use joint_model::{
-    HNum, Kind, MNum, Op, PNum, PackedEntry, Reply, Sort, Span, StaticNo, Thread, Var,
+    EntryParts, HNum, Kind, MNum, Op, PNum, Reply, Sort, Span, StaticNo, Thread, Var,
 };
 
 // A word and a handle.
@@ -298,9 +298,9 @@ impl Counts {
 
 /// The line of an entry up to its list: its number, who made it on which line, its event and its reply.
 #[inline(always)]
-pub fn add_head(line: &mut Line, entry: &PackedEntry, counts: &mut Counts)
+pub fn add_head<E: EntryParts>(line: &mut Line, entry: &E, counts: &mut Counts)
     requires { 300 ≤ line.old.room }
-    ensures { AddsText line.old line.new (head_text entry.now) 300 }
+    ensures { AddsText line.old line.new (head_text (E.entry entry.now)) 300 }
 {
     let number = entry.number();
     counts.number.go_to(number);

@@ -13,7 +13,7 @@ use crate::candidates::candidate_of;
 use crate::entries::{Counts, add_head, add_tail, list_of};
 use crate::lists::Numbers;
 use byte_streams::{Failed, Line, Sink};
-use joint_model::{History, PackedEntry, Span, Step};
+use joint_model::{Entry, EntryParts, History, Span, Step};
 
 // Writes the numbers that a span names, each with a space and its letter before it.
 fn write_numbers<K: Sink>(
@@ -85,15 +85,15 @@ fn write_listed<K: Sink>(
 
 /// Writes the line of an entry.
 #[inline(always)]
-pub fn write_entry<K: Sink>(
+pub fn write_entry<E: EntryParts, K: Sink>(
     h: &History,
-    entry: &PackedEntry,
+    entry: &E,
     counts: &mut Counts,
     line: &mut Line,
     out: &mut K,
 ) -> Result<(), Failed>
     ensures { Sends (K.held out.old) (K.held out.new) line.old.text line.new.text
-        (K.faults out.old) (K.faults out.new) result (entry_text h.now entry.now) }
+        (K.faults out.old) (K.faults out.new) result (entry_text h.now (E.entry entry.now)) }
 {
     line.make_room(out)?;
     add_head(line, entry, counts);
@@ -110,7 +110,7 @@ pub fn write_entry<K: Sink>(
 #[inline(never)]
 fn write_spelled<K: Sink>(
     h: &History,
-    entry: &PackedEntry,
+    entry: &Entry,
     counts: &mut Counts,
     line: &mut Line,
     out: &mut K,
@@ -126,7 +126,7 @@ fn write_spelled<K: Sink>(
 #[inline(never)]
 fn write_told<K: Sink>(
     h: &History,
-    entry: &PackedEntry,
+    entry: &Entry,
     counts: &mut Counts,
     line: &mut Line,
     out: &mut K,
@@ -138,8 +138,8 @@ fn write_told<K: Sink>(
         None => write_spelled(h, entry, counts, line, out),
         Some(candidate) => {
             line.make_room(out)?;
-            counts.candidates.go_to(entry.index());
-            counts.candidates.add(line, entry.number(), candidate);
+            counts.candidates.go_to(entry.made.index);
+            counts.candidates.add(line, entry.number, candidate);
             Ok(())
         }
     }

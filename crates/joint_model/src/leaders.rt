@@ -7,7 +7,7 @@ ghost use Rattle.std.specs.Prelude.{MatchOption};
 ghost use Rattle.joint_model.specs.Leaders.{follower_of, followers_of, led, reply_after, spelled, AreFollowed, Starts};
 ghost use Rattle.joint_model.specs.Merged.{Ascends, IsNextInOther, first_number, merged, IsNumbered};
 
-use crate::packed::PackedEntry;
+use crate::packed::{EntryParts, PackedEntry};
 use joint_machine::{Entry, HNum, Made, Op, Reply, Thread};
 use std::marker::Model;
 
@@ -224,7 +224,7 @@ pub enum Step<'a> {
     /// One that its list keeps.
     Kept(&'a PackedEntry),
     /// One of which the list keeps the handle alone.
-    Spelled(PackedEntry),
+    Spelled(Entry),
 }
 
 /// The leaders of a list that are still to come, with their followers.

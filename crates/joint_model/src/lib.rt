@@ -27,6 +27,6 @@ pub use joint_machine::{
 };
 pub use leaders::Step;
 pub use lists::{Alive, Entries, Holding, list_with_room};
-pub use packed::PackedEntry;
+pub use packed::{EntryParts, PackedEntry};
 pub use past::PastHistory;
 pub use sides::{enter, enter_handle, replays_go_on};

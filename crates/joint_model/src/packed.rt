@@ -2,9 +2,40 @@
 // leader has beside it fit in 64 bytes.
 
 ghost use Rattle.std.specs.Prelude.{◌≡◌, Some, None, if◌then◌else◌};
+ghost use Rattle.joint_machine.specs.declared.events.Entry.{Entry};
 
 use joint_machine::{Entry, Made, Op, Reply, Thread};
 use std::marker::Model;
+
+/// An entry that is read part by part: one that a list keeps, or one by itself.
+pub trait EntryParts {
+    /// The entry.
+    ghost entry: { Self → Entry };
+
+    /// The entry's number.
+    fn number(&self) -> u64
+        ensures { result ≡ (entry self.now).number };
+
+    /// The entry's caller.
+    fn caller(&self) -> Thread
+        ensures { result ≡ (entry self.now).made.caller };
+
+    /// The script line on which the entry was made.
+    fn index(&self) -> u32
+        ensures { result ≡ (entry self.now).made.index };
+
+    /// The entry's event.
+    fn op(&self) -> &Op
+        ensures { result.now ≡ (entry self.now).made.op };
+
+    /// The entry's reply.
+    fn reply(&self) -> &Reply
+        ensures { result.now ≡ (entry self.now).made.reply };
+
+    /// The number of the entry that it cites; None where it cites none.
+    fn cites(&self) -> Option<u64>
+        ensures { result ≡ (entry self.now).made.cites };
+}
 
 /// An entry in fewer bytes, as a list keeps it.
 #[derive(Drop)]
@@ -88,56 +119,76 @@ impl PackedEntry {
                 index: self.index,
                 op: self.op,
                 reply: self.reply,
-                cites: self.cites(),
+                cites: together(self.cites, self.cited),
             },
         }
     }
+}
 
-    /// The entry's number.
+impl EntryParts for PackedEntry {
+    ghost entry = { λ e. e };
+
     #[inline(always)]
-    pub fn number(&self) -> u64
-        ensures { result ≡ self.now.number }
-    {
+    fn number(&self) -> u64 {
         self.number
     }
 
-    /// The entry's caller.
     #[inline(always)]
-    pub fn caller(&self) -> Thread
-        ensures { result ≡ self.now.made.caller }
-    {
+    fn caller(&self) -> Thread {
         self.caller
     }
 
-    /// The script line on which the entry was made.
     #[inline(always)]
-    pub fn index(&self) -> u32
-        ensures { result ≡ self.now.made.index }
-    {
+    fn index(&self) -> u32 {
         self.index
     }
 
-    /// The entry's event.
     #[inline(always)]
-    pub fn op(&self) -> &Op
-        ensures { result.now ≡ self.now.made.op }
-    {
+    fn op(&self) -> &Op {
         &self.op
     }
 
-    /// The entry's reply.
     #[inline(always)]
-    pub fn reply(&self) -> &Reply
-        ensures { result.now ≡ self.now.made.reply }
-    {
+    fn reply(&self) -> &Reply {
         &self.reply
     }
 
-    /// The number of the entry that it cites; None where it cites none.
     #[inline(always)]
-    pub fn cites(&self) -> Option<u64>
-        ensures { result ≡ self.now.made.cites }
-    {
+    fn cites(&self) -> Option<u64> {
         together(self.cites, self.cited)
+    }
+}
+
+impl EntryParts for Entry {
+    ghost entry = { λ e. e };
+
+    #[inline(always)]
+    fn number(&self) -> u64 {
+        self.number
+    }
+
+    #[inline(always)]
+    fn caller(&self) -> Thread {
+        self.made.caller
+    }
+
+    #[inline(always)]
+    fn index(&self) -> u32 {
+        self.made.index
+    }
+
+    #[inline(always)]
+    fn op(&self) -> &Op {
+        &self.made.op
+    }
+
+    #[inline(always)]
+    fn reply(&self) -> &Reply {
+        &self.made.reply
+    }
+
+    #[inline(always)]
+    fn cites(&self) -> Option<u64> {
+        self.made.cites
     }
 }

@@ -22,7 +22,7 @@ fn entry_of(step: &Step) -> Entry
 {
     match step {
         Step::Kept(packed) => packed.unpack(),
-        Step::Spelled(packed) => packed.unpack(),
+        Step::Spelled(entry) => *entry,
     }
 }
 

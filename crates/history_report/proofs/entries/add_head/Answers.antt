@@ -4,7 +4,7 @@ use Rattle.history_report.proofs.Written.{head_joined}
 use Rattle.history_report.proofs.entries.add_head.Goals as goal
 
 pub returns : goal.returns
-returns c = record {
+returns g c = let e = g.E.EntryParts.entry c.args.entry.now in record {
   added = rw (
     c.add_reply.ensures.added,
     c.word.ensures.added,
@@ -19,7 +19,7 @@ returns c = record {
     c.op.ensures,
     c.reply.ensures,
   )
-      (head_joined c.args.line.now.text (decimal c.args.entry.now.number) (place_text c.args.entry.now.made.caller c.args.entry.now.made.index)
-      (event_words c.args.entry.now.made.caller c.args.entry.now.made.op) (reply_words c.args.entry.now.made.reply));
+      (head_joined c.args.line.now.text (decimal e.number) (place_text e.made.caller e.made.index)
+      (event_words e.made.caller e.made.op) (reply_words e.made.reply));
   left = omega arith;
 }
