@@ -12,6 +12,13 @@ use xref_list::ListingFault;
 // The most elements that stand before a list.
 const MOST_ELEMENTS: usize = 4_294_967_295;
 
+// Past so many elements room is made for a block of them, where there is memory for it. Room that nothing is put into
+// takes no memory, and so large a piece lies outside of the allocator's heap: where it grows, its pages are moved, and
+// no element is copied.
+const SHORT: usize = 16_384;
+
+const BLOCK: usize = 524_288;
+
 /// A list of lists, each of which is put last and is then only read.
 #[derive(Drop)]
 pub(crate) struct Lists {
@@ -83,7 +90,7 @@ impl Lists {
         ensures err { OnErr result (self.new ≡ self.old) }
     {
         self.starts.reserve(1)?;
-        self.items.reserve(row.len())?;
+        make_room(&mut self.items, row.len())?;
         let start = self.items.len();
         if start > MOST_ELEMENTS {
             return Err(ListingFault::TooMany);
@@ -92,6 +99,30 @@ impl Lists {
         self.starts.push_reserved(start as u32);
         Ok(())
     }
+}
+
+// Makes room for `n` more elements. Answers `AllocError` where there is no memory for them.
+#[inline(always)]
+fn make_room(items: &mut Vec<u32>, n: usize) -> Result<(), AllocError>
+    ensures room { OnOk result (vec_len items.new + n ≤ vec_capacity items.new) }
+    ensures items { items.new.items ≡ items.old.items }
+{
+    if n <= items.capacity() - items.len() {
+        return Ok(());
+    }
+    grow(items, n)
+}
+
+// Makes room as `make_room` does, where there isn't enough yet.
+#[inline(never)]
+fn grow(items: &mut Vec<u32>, n: usize) -> Result<(), AllocError>
+    ensures room { OnOk result (vec_len items.new + n ≤ vec_capacity items.new) }
+    ensures items { items.new.items ≡ items.old.items }
+{
+    if items.len() >= SHORT && items.reserve(n.max(BLOCK)).is_ok() {
+        return Ok(());
+    }
+    items.reserve(n)
 }
 
 // The list that begins at start `i` and ends at the next one's, or at the end.
