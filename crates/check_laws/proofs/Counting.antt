@@ -30,7 +30,7 @@ use Rattle.joint_laws.proofs.ManagedEntries.{ManagedStep-entry}
 use Rattle.joint_laws.proofs.ManagedMoves.{managed_line-goes_on, adopted-goes_on, met-goes_on, given_up-goes_on}
 use Rattle.joint_laws.proofs.ManagedSteps.{ManagedStep, going_on, snapping, resolving, abandoning, meet_by-managed, give_by-managed, twin-live}
 use Rattle.known_laws.specs.PastEntries.{InPast}
-use Rattle.check_laws.specs.Known.{At, ManagedAt, KnownFrom, managed_count, count_below, seen}
+use Rattle.check_laws.specs.Known.{PastAt, ManagedAt, KnownFrom, managed_count, count_below, seen}
 use Rattle.check_laws.specs.Behind.{in_turn, state_of, MayBePendingBehind}
 use Rattle.check_laws.specs.Counts.{ends_cycle, sets_cell, ended, Setting, setting, AtMost, IsPendingBy, IsUnknown, IsUnsetBy, ReadsAreCounted}
 use Rattle.check_laws.specs.Reads.{ComesBehind, AllComeBehind, AreInPlace}
@@ -128,17 +128,17 @@ record Pair (i j : ℕ) (n m : Noted) : Type 0 where
   comes : ComesBehind (is_read n.entry.made.op) (state_of back) n
   come : AllComeBehind back
   stand : AllStand back
-  lower : At back j m
+  lower : PastAt back j m
 
-pair : (h : List Noted) → AllComeBehind h → AllStand h → (i j : ℕ) (n m : Noted) → At h i n → At h j m → j < i → Pair i j n m
+pair : (h : List Noted) → AllComeBehind h → AllStand h → (i j : ℕ) (n m : Noted) → PastAt h i n → PastAt h j m → j < i → Pair i j n m
 pair h w r i j n m a b l =
     let c = cut h i n a in
     let w' = all_come-back c.front (n ∷ c.back) (subst AllComeBehind c.all w) in
     let r' = all_stand-back c.front (n ∷ c.back) (subst AllStand c.all r) in
-    let b' = at-less c.front (n ∷ c.back) j m (subst (λ z. At z j m) c.all b) (let p = c.place in omega (arith, l, p)) in
+    let b' = at-less c.front (n ∷ c.back) j m (subst (λ z. PastAt z j m) c.all b) (let p = c.place in omega (arith, l, p)) in
     record { back = c.back; comes = w'.0; come = w'.1; stand = r'.1; lower = at-less (n ∷ []) c.back j m b' (let p = c.place in omega (arith, l, p)) }
 
-end-apart : (h : List Noted) → AllComeBehind h → AllStand h → (i j k : ℕ) (n m : Noted) → At h i n → At h j m → j < i → Ends n.entry.made.op k → Ends m.entry.made.op k → ⊥
+end-apart : (h : List Noted) → AllComeBehind h → AllStand h → (i j k : ℕ) (n m : Noted) → PastAt h i n → PastAt h j m → j < i → Ends n.entry.made.op k → Ends m.entry.made.op k → ⊥
 end-apart h w r i j k n m a b l e f =
     let p = pair h w r i j n m a b l in
     let c = end-open (state_of p.back) n k p.comes e in
@@ -146,7 +146,7 @@ end-apart h w r i j k n m a b l e f =
     let same = c.2 in
     omega (arith, less, same)
 
-end-once : (h : List Noted) → AllComeBehind h → AllStand h → (i j k : ℕ) (n m : Noted) → At h i n → At h j m → Ends n.entry.made.op k → Ends m.entry.made.op k → i ≡ j
+end-once : (h : List Noted) → AllComeBehind h → AllStand h → (i j k : ℕ) (n m : Noted) → PastAt h i n → PastAt h j m → Ends n.entry.made.op k → Ends m.entry.made.op k → i ≡ j
 end-once h w r i j k n m a b e f = elim (split j i) [
   | inl less ↦ absurd (end-apart h w r i j k n m a b less e f)
   | inr far ↦ elim (split i j) [ inl more ↦ absurd (end-apart h w r j i k m n b a more f e) | inr none ↦ omega (arith, far, none) ]
@@ -156,7 +156,7 @@ end-once h w r i j k n m a b e f = elim (split j i) [
 record Counted (past : List Noted) (Is : Noted → Type 0) (m : ℕ) : Type 0 where
   at : ℕ
   entry : Noted
-  there : At past at entry
+  there : PastAt past at entry
   is : Is entry
   count : m ≡ count_below past (at + 1)
 
@@ -281,15 +281,15 @@ side-freed : (s : Linkage) (m : Made) (told : Told) (x : ℕ) (b : Bool) → Sid
 side-freed s m told x true l k i = inl i
 side-freed s m told x false l k i = event-freed s.managed m.caller m.op told x l.allowed k i
 
-freed-by : (past : List Noted) → AllComeBehind past → AllStand past → (x : ℕ) → Contains (state_of past).managed.managed.heap.freed x → (e : ℕ) × ((n : Noted) × At past e n × FreesObject n.told x)
+freed-by : (past : List Noted) → AllComeBehind past → AllStand past → (x : ℕ) → Contains (state_of past).managed.managed.heap.freed x → (e : ℕ) × ((n : Noted) × PastAt past e n × FreesObject n.told x)
 freed-by [] w r x i = absurd (Contains-nil x i)
 freed-by (m ∷ past) w r x i = by (freed-by past w.1 r.1 x) (is_read m.entry.made.op) refl w.0
   where
-    more : ((e : ℕ) × ((n : Noted) × At past e n × FreesObject n.told x)) → (e : ℕ) × ((n : Noted) × At (m ∷ past) e n × FreesObject n.told x)
+    more : ((e : ℕ) × ((n : Noted) × PastAt past e n × FreesObject n.told x)) → (e : ℕ) × ((n : Noted) × PastAt (m ∷ past) e n × FreesObject n.told x)
     more f = (f.0, (f.1.0, inr f.1.1, f.1.2))
 
-    by : (Contains (state_of past).managed.managed.heap.freed x → (e : ℕ) × ((n : Noted) × At past e n × FreesObject n.told x)) → (b : Bool)
-        → is_read m.entry.made.op ≡ b → ComesBehind b (state_of past) m → (e : ℕ) × ((n : Noted) × At (m ∷ past) e n × FreesObject n.told x)
+    by : (Contains (state_of past).managed.managed.heap.freed x → (e : ℕ) × ((n : Noted) × PastAt past e n × FreesObject n.told x)) → (b : Bool)
+        → is_read m.entry.made.op ≡ b → ComesBehind b (state_of past) m → (e : ℕ) × ((n : Noted) × PastAt (m ∷ past) e n × FreesObject n.told x)
     by rest true f c = more (rest (subst (λ (z : Linkage). Contains z.managed.managed.heap.freed x) (after-read (state_of past) m f) i))
     by rest false f c = elim (side-freed (state_of past) m.entry.made m.told x (is_peer_event m.entry.made.caller m.entry.made.op) c.lawful
         (kept past w.1 r.1) (subst (λ (z : Linkage). Contains z.managed.managed.heap.freed x) (after-other (state_of past) m f) i)) [
@@ -355,7 +355,7 @@ filled (m ∷ past) w r n k (inl e) q f = (fills-on (state_of past) m k (cells-l
     (subst (λ z. SetsCell z k) (sym (ap (λ (z : Noted). z.entry.made.op) e)) q) (ap (λ (z : Noted). z.entry.made.reply) e ∙ f)).now
 filled (m ∷ past) w r n k (inr i) q f = (let x = filled past w.1 r.1 n k i q f in (x.0, (since-on (state_of past) m w.0 (kept past w.1 r.1)).stay k x.0 x.1))
 
-set-apart : (h : List Noted) → AllComeBehind h → AllStand h → (i j k : ℕ) (n m : Noted) → At h i n → At h j m → j < i
+set-apart : (h : List Noted) → AllComeBehind h → AllStand h → (i j k : ℕ) (n m : Noted) → PastAt h i n → PastAt h j m → j < i
     → SetsCell n.entry.made.op k → n.entry.made.reply ≡ says.Ok → SetsCell m.entry.made.op k → m.entry.made.reply ≡ says.Ok → ⊥
 set-apart h w r i j k n m a b l e f g d =
     let p = pair h w r i j n m a b l in
@@ -363,7 +363,7 @@ set-apart h w r i j k n m a b l e f g d =
     let none = (fills-on (state_of p.back) n k (cells-long p.back p.come p.stand) p.comes e f).was in
     none_some x.0 (sym none ∙ x.1)
 
-set-once : (h : List Noted) → AllComeBehind h → AllStand h → (i j k : ℕ) (n m : Noted) → At h i n → At h j m
+set-once : (h : List Noted) → AllComeBehind h → AllStand h → (i j k : ℕ) (n m : Noted) → PastAt h i n → PastAt h j m
     → SetsCell n.entry.made.op k → n.entry.made.reply ≡ says.Ok → SetsCell m.entry.made.op k → m.entry.made.reply ≡ says.Ok → i ≡ j
 set-once h w r i j k n m a b e f g d = elim (split j i) [
   | inl less ↦ absurd (set-apart h w r i j k n m a b less e f g d)
@@ -489,7 +489,7 @@ module _ (past : List Noted) (w : AllComeBehind past) (r : AllStand past) (p : A
           let u = setting-some past k v q in
           let a = get-at past e d.element d.there in
           let same = set-once past w r e u.at k d.element u.entry a u.there d.is.0 d.is.1 u.is.0 u.is.1 in
-          let one = one-at past u.at u.entry c.element u.there (subst (λ z. At past z c.element) same (get-at past e c.element c.there)) in
+          let one = one-at past u.at u.entry c.element u.there (subst (λ z. PastAt past z c.element) same (get-at past e c.element c.there)) in
           most.0 (sym u.is.2 ∙ (ap (λ (z : Noted). z.entry.made.caller) one ∙ c.is))
 
   so-unset : MayBeUnset (in_turn past) s.cells (length past) t k → IsUnsetBy past s t k

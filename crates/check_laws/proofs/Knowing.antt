@@ -7,10 +7,10 @@ use Rattle.joint_machine.specs.Readers.{is_managed_entry}
 use Rattle.joint_machine.specs.Told.{Noted}
 use Rattle.std.proofs.lemmas.Bool.Decides.{nat_tests}
 use Rattle.joint_machine.proofs.HeapLemmas.{thread_itself, same_thread}
-use Rattle.check_laws.specs.Known.{At, ManagedAt, KnownFrom, one, managed_count, count_below, seen, KnownIsCounted}
+use Rattle.check_laws.specs.Known.{PastAt, ManagedAt, KnownFrom, one, managed_count, count_below, seen, KnownIsCounted}
 
 -- places are below the length
-pub within : (h : List Noted) (i : ℕ) (n : Noted) → At h i n → i < length h
+pub within : (h : List Noted) (i : ℕ) (n : Noted) → PastAt h i n → i < length h
 within [] i n a = absurd a
 within (x ∷ h) i n (inl e) = let l = e.0 in omega (arith, l)
 within (x ∷ h) i n (inr a) = let l = within h i n a in omega (arith, l)
@@ -84,7 +84,7 @@ forth (n ∷ h) t w j l m k = by (forth h t w j l) (is_thread n.entry.made.calle
     earlier : is_thread n.entry.made.caller t ≡ false → KnownFrom h t j
     earlier e = at k.2.1
       where
-        at : At (n ∷ h) k.0 k.2.0 → KnownFrom h t j
+        at : PastAt (n ∷ h) k.0 k.2.0 → KnownFrom h t j
         at (inl q) = absurd (let itself : is_thread n.entry.made.caller t ≡ true = subst (λ z. is_thread z t ≡ true) (sym (ap (λ (z : Noted). z.entry.made.caller) q.1 ∙ k.2.2)) (thread_itself t) in
             let f : ⊥ = cc in f)
         at (inr a) = (k.0, k.1, (k.2.0, a, k.2.2))

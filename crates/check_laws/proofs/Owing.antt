@@ -8,11 +8,11 @@ use Rattle.joint_machine.specs.Readers.{is_managed_entry, HasEventAt, IsManagedA
 use Rattle.joint_machine.specs.Told.{Noted}
 use Rattle.joint_machine.proofs.Deciding.{none_some, true-false}
 use Rattle.known_laws.specs.PastEntries.{turned}
-use Rattle.check_laws.specs.Known.{At, ManagedAt, pick, first_managed, PendingIsOwed}
+use Rattle.check_laws.specs.Known.{PastAt, ManagedAt, pick, first_managed, PendingIsOwed}
 use Rattle.check_laws.proofs.Knowing.{within, split}
 use Rattle.check_laws.proofs.Wholly.{behind, at-turned, turned-at, lowered}
 
-one-at : (h : List Noted) (i : ℕ) (n m : Noted) → At h i n → At h i m → n ≡ m
+one-at : (h : List Noted) (i : ℕ) (n m : Noted) → PastAt h i n → PastAt h i m → n ≡ m
 one-at [] i n m a b = absurd a
 one-at (x ∷ h) i n m (inl e) (inl f) = sym e.1 ∙ f.1
 one-at (x ∷ h) i n m (inl e) (inr b) = absurd (let q = e.0 in let l = within h i m b in omega (arith, q, l))
@@ -39,7 +39,7 @@ module _ (x : Noted) (h : List Noted) (quiet : is_managed_entry x ≡ false) whe
   -- the first one, its place, and what is managed before it
   record First (later : List Noted) (n : Noted) : Type 0 where
     place : ℕ
-    there : At (later ++ x ∷ h) place n
+    there : PastAt (later ++ x ∷ h) place n
     behind : length h < place
     managed : is_managed_entry n ≡ true
     early : (j : ℕ) → j < place → ManagedAt (later ++ x ∷ h) j → j < length h
@@ -106,7 +106,7 @@ pending_owed later x h k quiet fresh = (forth, back)
         n : Noted
         n = w.1.element
 
-        at : At all s n
+        at : PastAt all s n
         at = turned-at all [] s n w.1.there (in_all s n w.1.there)
 
         managed : is_managed_entry n ≡ true
@@ -124,6 +124,6 @@ pending_owed later x h k quiet fresh = (forth, back)
               | inr more ↦ elim (split s f.place) [
                 | inl less ↦ absurd (not-before (f.early s less (n, at, managed)))
                 | inr same ↦ (let q : f.place ≡ s = omega (arith, more, same) in
-                    (m, e, subst (λ (z : Noted). z.entry.made.op ≡ op.Snap record { 0 = k }) (one-at all s n m at (subst (λ z. At all z m) q f.there)) w.1.is))
+                    (m, e, subst (λ (z : Noted). z.entry.made.op ≡ op.Snap record { 0 = k }) (one-at all s n m at (subst (λ z. PastAt all z m) q f.there)) w.1.is))
               ]
             ]

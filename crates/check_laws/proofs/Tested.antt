@@ -13,7 +13,7 @@ use Rattle.joint_machine.specs.declared.events.Reply.TheVariants as says
 use Rattle.joint_machine.specs.Lines.{is_peer_event, is_read}
 use Rattle.joint_machine.specs.Linked.{Linkage, managed_after}
 use Rattle.joint_machine.specs.Managed.{Managed, read_cell}
-use Rattle.joint_machine.specs.Places.{At as StandsAt}
+use Rattle.joint_machine.specs.Places.{At}
 use Rattle.joint_machine.specs.Readers.{ReadsCell, IsReadReply, is_set_aside, is_managed_entry, HasEventAt, IsManagedAt, EndsCycleAt, SetsCellAt, IsCallersAt, HasKnownFrom, FreesObjectAt}
 use Rattle.joint_machine.specs.Readers.{MayBePending, MayBeUnset, entry_after}
 use Rattle.joint_machine.specs.Run.{thread_number}
@@ -21,7 +21,7 @@ use Rattle.joint_machine.specs.Told.{Noted}
 use Rattle.joint_machine.proofs.Deciding.{none_some, true-false}
 use Rattle.joint_laws.proofs.ReadsAside.{standing-reply}
 use Rattle.known_laws.specs.PastEntries.{InPast}
-use Rattle.check_laws.specs.Known.{At, IsEntryAt}
+use Rattle.check_laws.specs.Known.{PastAt, IsEntryAt}
 use Rattle.check_laws.specs.Behind.{in_turn, state_of, WaitsForSnap, GivesSnap, IsReplyBehind}
 use Rattle.check_laws.specs.Reads.{AllComeBehind, AreInPlace, AllReadBehind, AllReadOver, ReadersAreTested}
 use Rattle.check_laws.proofs.Knowing.{within, split}
@@ -29,30 +29,30 @@ use Rattle.check_laws.proofs.Wholly.{behind, at-turned, turned-at}
 use Rattle.check_laws.proofs.Keeping.{AllStand, after-read, after-other, Since, since, all_come-back, all_stand-back, freed-in, opens-on, snap-counted, end-counted}
 
 -- places
-pub at-in : (h : List Noted) (i : ℕ) (n : Noted) → At h i n → InPast h n
+pub at-in : (h : List Noted) (i : ℕ) (n : Noted) → PastAt h i n → InPast h n
 at-in [] i n a = a
 at-in (x ∷ h) i n (inl e) = inl e.1
 at-in (x ∷ h) i n (inr a) = inr (at-in h i n a)
 
-pub in-at : (h : List Noted) (n : Noted) → AreInPlace h → InPast h n → At h n.entry.number n
+pub in-at : (h : List Noted) (n : Noted) → AreInPlace h → InPast h n → PastAt h n.entry.number n
 in-at [] n p i = i
 in-at (x ∷ h) n p (inl e) = inl (sym (ap (λ (z : Noted). z.entry.number) e) ∙ p.0, e)
 in-at (x ∷ h) n p (inr i) = inr (in-at h n p.1 i)
 
-pub get-at : (h : List Noted) (i : ℕ) (n : Noted) → IsEntryAt (in_turn h) i n → At h i n
+pub get-at : (h : List Noted) (i : ℕ) (n : Noted) → IsEntryAt (in_turn h) i n → PastAt h i n
 get-at h i n e = elim (split i (length h)) [
   | inl less ↦ turned-at h [] i n e less
   | inr more ↦ absurd (none_some n (sym (behind h [] i (i - length h) (omega (arith, more))) ∙ e))
 ]
 
-pub at-get : (h : List Noted) (i : ℕ) (n : Noted) → At h i n → IsEntryAt (in_turn h) i n
+pub at-get : (h : List Noted) (i : ℕ) (n : Noted) → PastAt h i n → IsEntryAt (in_turn h) i n
 at-get h i n a = at-turned h [] i n a
 
-pub at-more : (front h : List Noted) (i : ℕ) (n : Noted) → At h i n → At (front ++ h) i n
+pub at-more : (front h : List Noted) (i : ℕ) (n : Noted) → PastAt h i n → PastAt (front ++ h) i n
 at-more [] h i n a = a
 at-more (x ∷ front) h i n a = inr (at-more front h i n a)
 
-pub at-less : (front h : List Noted) (i : ℕ) (n : Noted) → At (front ++ h) i n → i < length h → At h i n
+pub at-less : (front h : List Noted) (i : ℕ) (n : Noted) → PastAt (front ++ h) i n → i < length h → PastAt h i n
 at-less [] h i n a l = a
 at-less (x ∷ front) h i n (inl e) l = absurd (let q = e.0 in let m = length-append front h in omega (arith, l, q, m))
 at-less (x ∷ front) h i n (inr a) l = at-less front h i n a l
@@ -68,12 +68,12 @@ pub record Cut (h : List Noted) (i : ℕ) (n : Noted) : Type 0 where
   pub all : h ≡ front ++ n ∷ back
   pub place : length back ≡ i
 
-pub cut : (h : List Noted) (i : ℕ) (n : Noted) → At h i n → Cut h i n
+pub cut : (h : List Noted) (i : ℕ) (n : Noted) → PastAt h i n → Cut h i n
 cut [] i n a = absurd a
 cut (x ∷ h) i n (inl e) = record { front = []; back = h; all = ap (λ z. z ∷ h) e.1; place = sym e.0 }
 cut (x ∷ h) i n (inr a) = (let c = cut h i n a in record { front = x ∷ c.front; back = c.back; all = ap (λ z. x ∷ z) c.all; place = c.place })
 
-pub one-at : (h : List Noted) (i : ℕ) (n m : Noted) → At h i n → At h i m → n ≡ m
+pub one-at : (h : List Noted) (i : ℕ) (n m : Noted) → PastAt h i n → PastAt h i m → n ≡ m
 one-at [] i n m a b = absurd a
 one-at (x ∷ h) i n m (inl e) (inl f) = sym e.1 ∙ f.1
 one-at (x ∷ h) i n m (inl e) (inr b) = absurd (let q = e.0 in let l = within h i m b in omega (arith, q, l))
@@ -135,10 +135,10 @@ module _ (front h : List Noted) where
   down : (i : ℕ) (n : Noted) → IsEntryAt wider i n → i < length h → IsEntryAt (in_turn h) i n
   down i n e l = at-get h i n (at-less front h i n (get-at (front ++ h) i n e) l)
 
-  at-up : {Is : Noted → Type 0} → (i : ℕ) → StandsAt (in_turn h) i Is → StandsAt wider i Is
+  at-up : {Is : Noted → Type 0} → (i : ℕ) → At (in_turn h) i Is → At wider i Is
   at-up i e = record { element = e.element; there = up i e.element e.there; is = e.is }
 
-  at-down : {Is : Noted → Type 0} → (i : ℕ) → StandsAt wider i Is → i < length h → StandsAt (in_turn h) i Is
+  at-down : {Is : Noted → Type 0} → (i : ℕ) → At wider i Is → i < length h → At (in_turn h) i Is
   at-down i e l = record { element = e.element; there = down i e.element e.there l; is = e.is }
 
   known-up : (t : Thread) (i j : ℕ) → HasKnownFrom (in_turn h) t i j → HasKnownFrom wider t i j
@@ -151,13 +151,13 @@ module _ (front h : List Noted) where
   known-less t i j e (x, a, b, c) = omega (arith, a, b, e)
 
 -- no cycle is snapped twice
-snap-once : (h : List Noted) → AllComeBehind h → AllStand h → (i j k : ℕ) (n m : Noted) → At h i n → At h j m
+snap-once : (h : List Noted) → AllComeBehind h → AllStand h → (i j k : ℕ) (n m : Noted) → PastAt h i n → PastAt h j m
     → j < i → n.entry.made.op ≡ op.Snap record { 0 = k } → m.entry.made.op ≡ op.Snap record { 0 = k } → ⊥
 snap-once h w r i j k n m a b l e f =
     let c = cut h i n a in
     let w' = all_come-back c.front (n ∷ c.back) (subst AllComeBehind c.all w) in
     let r' = all_stand-back c.front (n ∷ c.back) (subst AllStand c.all r) in
-    let b' = at-less c.front (n ∷ c.back) j m (subst (λ z. At z j m) c.all b) (let p = c.place in omega (arith, l, p)) in
+    let b' = at-less c.front (n ∷ c.back) j m (subst (λ z. PastAt z j m) c.all b) (let p = c.place in omega (arith, l, p)) in
     let b'' = at-less (n ∷ []) c.back j m b' (let p = c.place in omega (arith, l, p)) in
     let few = snap-counted c.back w'.1 r'.1 m k (at-in c.back j m b'') f in
     let next = (opens-on (state_of c.back) n k w'.0 e).next in
@@ -182,7 +182,7 @@ quiet-on s n e = by (is_read n.entry.made.op) refl
         (subst (λ b. SameCycles s.managed.managed (managed_after s.managed n.entry.made n.told b).managed)
         (sym (peer (is_peer_event n.entry.made.caller n.entry.made.op) (is_read n.entry.made.op) e f)) (record { cycle = refl; cycles = refl }))
 
-quiet : (front h : List Noted) → ((j : ℕ) (n : Noted) → At (front ++ h) j n → length h ≤ j → is_managed_entry n ≡ true → ⊥)
+quiet : (front h : List Noted) → ((j : ℕ) (n : Noted) → PastAt (front ++ h) j n → length h ≤ j → is_managed_entry n ≡ true → ⊥)
     → SameCycles (state_of h).managed.managed (state_of (front ++ h)).managed.managed
 quiet [] h none = record { cycle = refl; cycles = refl }
 quiet (n ∷ front) h none =
@@ -221,7 +221,7 @@ module _ (front : List Noted) (x : Noted) (h : List Noted) (w : AllComeBehind (f
   apart : Since s (state_of all).managed.managed
   apart = subst (λ z. Since s (state_of z).managed.managed) same (since (front ++ x ∷ []) h (subst AllComeBehind (sym same) w) (subst AllStand (sym same) r))
 
-  x-at : At all (length h) x
+  x-at : PastAt all (length h) x
   x-at = at-more front (x ∷ h) (length h) x (inl (refl, refl))
 
   -- facts about a place, of the whole as written
@@ -315,8 +315,8 @@ module _ (front : List Noted) (x : Noted) (h : List Noted) (w : AllComeBehind (f
 
         by : (c : Cut all m.snap m.snaps.element) → (mid : List Noted) × (c.back ≡ mid ++ x ∷ h) → (s.cycle ≡ None) × (k ≡ s.cycles + 1)
         by c (mid, e) =
-            let back-in : (j : ℕ) (n : Noted) → At (mid ++ x ∷ h) j n
-            → At all j n = λ j n q. subst (λ z. At z j n) (sym c.all) (at-more c.front (m.snaps.element ∷ c.back) j n (inr (subst (λ z. At z j n) (sym e) q))) in
+            let back-in : (j : ℕ) (n : Noted) → PastAt (mid ++ x ∷ h) j n
+            → PastAt all j n = λ j n q. subst (λ z. PastAt z j n) (sym c.all) (at-more c.front (m.snaps.element ∷ c.back) j n (inr (subst (λ z. PastAt z j n) (sym e) q))) in
             let z = quiet mid (x ∷ h) (λ j n q l g.
             let low = m.early j (let v = within (mid ++ x ∷ h) j n q in let u = ap length e in let y = c.place in omega (arith, v, u, y))
             (record { element = n; there = at-get all j n (back-in j n q); is = g }) in
@@ -357,21 +357,21 @@ module _ (front : List Noted) (x : Noted) (h : List Noted) (w : AllComeBehind (f
             gives [] v y b = b.0.1
             gives (z ∷ u) v y b = gives u v y b.1
 
-            early : (n : Noted) → n.entry.made.op ≡ op.Snap record { 0 = k } → At all n.entry.number n → (j : ℕ) → j < n.entry.number → IsManagedAt (in_turn all) j → j < x.entry.number
+            early : (n : Noted) → n.entry.made.op ≡ op.Snap record { 0 = k } → PastAt all n.entry.number n → (j : ℕ) → j < n.entry.number → IsManagedAt (in_turn all) j → j < x.entry.number
             early n e a j l g =
                 let b' = get-at all j g.element g.there in
                 elim (split j (length h)) [
                   | inl less ↦ (let q = number in omega (arith, less, q))
                   | inr far ↦ absurd (
                       let c = cut all j g.element b' in
-                      let there : At all j g.element = b' in
+                      let there : PastAt all j g.element = b' in
                       elim (split (length h) j) [
-                        | inr less ↦ (let same : length h ≡ j = omega (arith, less, far) in let q = one-at all j g.element x b' (subst (λ z. At all z x) same x-at) in
+                        | inr less ↦ (let same : length h ≡ j = omega (arith, less, far) in let q = one-at all j g.element x b' (subst (λ z. PastAt all z x) same x-at) in
                             true-false (is_managed_entry x) (subst (λ z. is_managed_entry z ≡ true) q g.is) (read-unmanaged x read))
                         | inl less ↦ (
                             let gs = gives c.front c.back g.element (subst AllReadBehind c.all b) in
-                            let x-back : At c.back (length h) x = at-less (g.element ∷ []) c.back (length h) x
-                            (at-less c.front (g.element ∷ c.back) (length h) x (subst (λ z. At z (length h) x) c.all x-at) (let q = c.place in omega (arith, less, q)))
+                            let x-back : PastAt c.back (length h) x = at-less (g.element ∷ []) c.back (length h) x
+                            (at-less c.front (g.element ∷ c.back) (length h) x (subst (λ z. PastAt z (length h) x) c.all x-at) (let q = c.place in omega (arith, less, q)))
                             (let q = c.place in omega (arith, less, q)) in
                             let is = gs g.is k (record {
                               entry = x;
@@ -399,7 +399,7 @@ module _ (front : List Noted) (x : Noted) (h : List Noted) (w : AllComeBehind (f
 
     not-here : (k : ℕ) → (m : MayBePending (in_turn all) x.entry.number t k) → m.snap ≡ length h → ⊥
     not-here k m e =
-        let q = one-at all (length h) m.snaps.element x (subst (λ z. At all z m.snaps.element) e (get-at all m.snap m.snaps.element m.snaps.there)) x-at in
+        let q = one-at all (length h) m.snaps.element x (subst (λ z. PastAt all z m.snaps.element) e (get-at all m.snap m.snaps.element m.snaps.there)) x-at in
         let f : true ≡ false = sym read ∙ (ap (λ (z : Noted). is_read z.entry.made.op) (sym q) ∙ ap is_read m.snaps.is) in
         true-false true refl f
 
@@ -463,14 +463,14 @@ module _ (all : List Noted) (w : AllComeBehind all) (p : AreInPlace all) where
     all-behind r o (front ++ x ∷ []) h (e ∙ sym (append_assoc front (x ∷ []) h)) q.1,
   )
     where
-      x-at : At all (length h) x
-      x-at = subst (λ z. At z (length h) x) (sym e) (at-more front (x ∷ h) (length h) x (inl (refl, refl)))
+      x-at : PastAt all (length h) x
+      x-at = subst (λ z. PastAt z (length h) x) (sym e) (at-more front (x ∷ h) (length h) x (inl (refl, refl)))
 
       gives : GivesSnap h x
       gives g k v =
           let m = over-pending (in_turn all) end h q.1 v.entry k v.there v.read v.reply in
           let a = get-at all m.snap m.snaps.element m.snaps.there in
-          let a' = subst (λ z. At z m.snap m.snaps.element) e a in
+          let a' = subst (λ z. PastAt z m.snap m.snaps.element) e a in
           let here = in-at h v.entry (in_place-back front (x ∷ h) (subst AreInPlace e p)).1 v.there in
           let low = within h v.entry.entry.number v.entry here in
           elim (split m.snap (length h)) [
@@ -479,7 +479,7 @@ module _ (all : List Noted) (w : AllComeBehind all) (p : AreInPlace all) where
             | inr far ↦ elim (split (length h) m.snap) [
               | inl more ↦ absurd (let z = m.early (length h) more (record { element = x; there = at-get all (length h) x x-at; is = g }) in omega (arith, z, low))
               | inr same ↦ ap (λ (z : Noted). z.entry.made.op) (one-at all (length h) x m.snaps.element x-at
-                  (subst (λ z. At all z m.snaps.element) (let u : m.snap ≡ length h = omega (arith, far, same) in u) a)) ∙ m.snaps.is
+                  (subst (λ z. PastAt all z m.snaps.element) (let u : m.snap ≡ length h = omega (arith, far, same) in u) a)) ∙ m.snaps.is
             ]
           ]
 

@@ -6,7 +6,7 @@ use Rattle.joint_machine.specs.declared.names.Thread.{Thread}
 use Rattle.joint_machine.specs.Readers.{IsManagedAt, HasKnownFrom}
 use Rattle.joint_machine.specs.Told.{Noted}
 use Rattle.known_laws.specs.PastEntries.{turned}
-use Rattle.check_laws.specs.Known.{At, count_below, seen, IsEntryAt, KindAt, KindIn, UnknownIsTested}
+use Rattle.check_laws.specs.Known.{PastAt, count_below, seen, IsEntryAt, KindAt, KindIn, UnknownIsTested}
 use Rattle.check_laws.proofs.Knowing.{within, split, forth, back}
 
 -- a list turned round, behind what is put to it
@@ -14,12 +14,12 @@ pub behind : (h acc : List Noted) (i k : ℕ) → i ≡ length h + k → slice_g
 behind [] acc i k e = let q : i ≡ k = omega (arith, e) in ap (λ z. slice_get acc z) q
 behind (x ∷ h) acc i k e = behind h (x ∷ acc) i (suc k) (omega (arith, e))
 
-pub at-turned : (h acc : List Noted) (i : ℕ) (n : Noted) → At h i n → slice_get (turned acc h) i ≡ Some n
+pub at-turned : (h acc : List Noted) (i : ℕ) (n : Noted) → PastAt h i n → slice_get (turned acc h) i ≡ Some n
 at-turned [] acc i n a = absurd a
 at-turned (x ∷ h) acc i n (inl e) = behind h (x ∷ acc) i 0 (let q = e.0 in omega (arith, q)) ∙ ap Some e.1
 at-turned (x ∷ h) acc i n (inr a) = at-turned h (x ∷ acc) i n a
 
-pub turned-at : (h acc : List Noted) (i : ℕ) (n : Noted) → slice_get (turned acc h) i ≡ Some n → i < length h → At h i n
+pub turned-at : (h acc : List Noted) (i : ℕ) (n : Noted) → slice_get (turned acc h) i ≡ Some n → i < length h → PastAt h i n
 turned-at [] acc i n e l = absurd (omega (arith, l))
 turned-at (x ∷ h) acc i n e l = elim (split i (length h)) [
   | inl less ↦ inr (turned-at h (x ∷ acc) i n e less)
@@ -27,11 +27,11 @@ turned-at (x ∷ h) acc i n e l = elim (split i (length h)) [
 ]
 
 -- what stands before is in the whole
-lifted : (later : List Noted) (x : Noted) (h : List Noted) (i : ℕ) (n : Noted) → At h i n → At (later ++ x ∷ h) i n
+lifted : (later : List Noted) (x : Noted) (h : List Noted) (i : ℕ) (n : Noted) → PastAt h i n → PastAt (later ++ x ∷ h) i n
 lifted [] x h i n a = inr a
 lifted (y ∷ later) x h i n a = inr (lifted later x h i n a)
 
-pub lowered : (later : List Noted) (x : Noted) (h : List Noted) (i : ℕ) (n : Noted) → At (later ++ x ∷ h) i n → i < length h → At h i n
+pub lowered : (later : List Noted) (x : Noted) (h : List Noted) (i : ℕ) (n : Noted) → PastAt (later ++ x ∷ h) i n → i < length h → PastAt h i n
 lowered [] x h i n (inl e) l = absurd (let q = e.0 in omega (arith, l, q))
 lowered [] x h i n (inr a) l = a
 lowered (y ∷ later) x h i n (inl e) l = absurd (let q = e.0 in let m = length-append later (x ∷ h) in omega (arith, l, q, m))
@@ -42,10 +42,10 @@ module _ (later : List Noted) (x : Noted) (h : List Noted) where
   whole = turned [] (later ++ x ∷ h)
 
   -- an entry of the whole before the read
-  up : (i : ℕ) (n : Noted) → At h i n → IsEntryAt whole i n
+  up : (i : ℕ) (n : Noted) → PastAt h i n → IsEntryAt whole i n
   up i n a = at-turned (later ++ x ∷ h) [] i n (lifted later x h i n a)
 
-  down : (i : ℕ) (n : Noted) → IsEntryAt whole i n → i < length h → At h i n
+  down : (i : ℕ) (n : Noted) → IsEntryAt whole i n → i < length h → PastAt h i n
   down i n e l = lowered later x h i n (turned-at (later ++ x ∷ h) [] i n e (let m = length-append later (x ∷ h) in omega (arith, l, m))) l
 
   module _ (t : Thread) (p : Noted → Bool) where

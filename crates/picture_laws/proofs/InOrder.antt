@@ -19,7 +19,7 @@ use Rattle.joint_laws.specs.ReadingLaws.{IsLawfulReading}
 use Rattle.joint_laws.specs.Spans.{TellsNamed, TellsNoneFreed}
 use Rattle.known_laws.specs.PastEntries.{entries, turned}
 use Rattle.check_laws.specs.Behind.{in_turn, state_of, IsReplyBehind, RepliesBehind, IsInOrderBehind, AllInOrder}
-use Rattle.check_laws.specs.Known.{At, IsEntryAt}
+use Rattle.check_laws.specs.Known.{PastAt, IsEntryAt}
 use Rattle.check_laws.specs.Reads.{AreInPlace, AllReadBehind, AllReadOver}
 use Rattle.check_laws.proofs.Knowing.{split}
 use Rattle.check_laws.proofs.Naming.{all_read}
@@ -95,7 +95,7 @@ module _ (ns : List Noted) where
   )
   reply-over past s i t k _ at w = w
 
-  all-over : (past : List Noted) → AreInPlace past → AllReadBehind past → ((i : ℕ) (n : Noted) → At past i n → IsEntryAt ns i n) → AllReadOver whole [] past
+  all-over : (past : List Noted) → AreInPlace past → AllReadBehind past → ((i : ℕ) (n : Noted) → PastAt past i n → IsEntryAt ns i n) → AllReadOver whole [] past
   all-over [] p r at = tt
   all-over (n ∷ past) p r at = (
     λ k c. reply-over past (state_of past).managed.managed n.entry.number n.entry.made.caller k n.entry.made.reply
