@@ -14,7 +14,7 @@ pub RisesBetween-low : (a b c : ℕ) (rows : List HandleRow) → a ≤ b → Ris
 RisesBetween-low a b c [] le rises = omega arith
 RisesBetween-low a b c (r ∷ rs) le rises = (omega arith, rises.1)
 
--- and without one of them
+-- rows rise without one of them too
 pub RisesBetween-without : (h : HNum) (low high : ℕ) (rows : List HandleRow) → RisesBetween low high rows → RisesBetween low high (without h rows)
 RisesBetween-without h low high [] rises = rises
 RisesBetween-without h low high (r ∷ rs) rises = by (eqb h.0 r.number.0) refl (RisesBetween-without h r.number.0 high rs rises.1)
