@@ -6,7 +6,7 @@ use Rattle.joint_machine.specs.declared.lines.Act.{Act}
 use Rattle.joint_machine.specs.declared.lines.Act.TheVariants as act
 use Rattle.joint_machine.specs.declared.events.Op.{Op}
 use Rattle.joint_machine.specs.declared.events.Op.TheVariants as op
-use Rattle.joint_machine.specs.Lines.{IsVar, IsVarOrNone}
+use Rattle.joint_machine.specs.Lines.{IsHeapAct, IsVar}
 use Rattle.bridge_script.specs.Words.{act_words}
 use Rattle.history_report.specs.Report.{event_words}
 use Rattle.script_laws.proofs.Reading.{Names, read_event, read-number, read-var, read-optional, read-kind, read-sort, read-static, read-own, read-cell, read-global}
@@ -14,12 +14,6 @@ use Rattle.script_laws.proofs.Reading.{Names, read_event, read-number, read-var,
 -- an act that is one event of a managed or a peer thread, with its places within their limits
 abbrev pub IsBounded : Act → Type 0
 IsBounded (act.New v k n) = IsVar v × (n ≤ 16)
-IsBounded (act.Copy v w) = IsVar v × IsVar w
-IsBounded (act.Set v i w) = IsVar v × IsVarOrNone w × (i ≤ 255)
-IsBounded (act.Get v w i) = IsVar v × IsVar w × (i ≤ 255)
-IsBounded (act.Drop v) = IsVar v
-IsBounded (act.Load v x) = IsVar v × (x.0 < 16)
-IsBounded (act.Store x v) = (x.0 < 16) × IsVarOrNone v
 IsBounded (act.Weak k v) = (k.0 < 64) × IsVar v
 IsBounded (act.Read k) = k.0 < 64
 IsBounded (act.Await k) = k.0 < 64
@@ -31,7 +25,7 @@ IsBounded (act.WGlobal g v) = (g.0 < 64) × IsVar v
 IsBounded (act.UnGlobal g) = g.0 < 64
 IsBounded (act.WRead v g) = IsVar v × (g.0 < 64)
 IsBounded (act.Slice n) = n ≤ 65535
-IsBounded _ = ⊥
+IsBounded a = IsHeapAct a
 
 -- an event of a managed or a peer thread, with its places within their limits, and the state's own names
 abbrev pub IsKnown : Names → Op → Type 0
