@@ -1,5 +1,6 @@
 pub mod Merging
 pub mod Shuffling
+mod Places
 mod Spelling
 mod Searching
 mod Walking

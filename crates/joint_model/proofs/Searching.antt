@@ -1,27 +1,22 @@
 -- The entry at a place of leaders and their followers, and the one with a number, where the numbers are in order. Both
 -- are found from the leader before it: what that one leads stands in the list right there.
-use Rattle.std.proofs.Common.{◌≡◌, ◌≢◌, inl, inr, Option, Some, None, slice_get, ℕ, zero, suc, ◌+◌, ◌-◌, ◌^◌, ◌<◌, ◌≤◌, List, [], ◌∷◌, ◌++◌, length, take, drop, sum_by, slice_index_or, slice_set}
+use Rattle.std.proofs.Common.{◌≡◌, ◌≢◌, inl, inr, Option, Some, None, slice_get, ℕ, zero, suc, ◌+◌, ◌-◌, ◌%◌, ◌^◌, ◌<◌, ◌≤◌, List, [], ◌∷◌, ◌++◌, length, take, drop, sum_by, slice_index_or}
 use Rattle.std.proofs.Common.{arith, subst, sym, ap, ◌∙◌}
 use Rattle.std.specs.Prelude.{All, Contains, MatchOption}
-use Rattle.std.specs.Ordering.{is_lt, nat_cmp, ordering_index}
-use Rattle.std.specs.declared.cmp.Ordering.TheVariants.{Less, Equal, Greater}
-use Rattle.std.specs.List.Sorted.{IsNonDecreasingBy, IsPartitionPoint, IsSortedBy}
-use Rattle.std.proofs.lemmas.Cmp.{nat_cmp_total}
-use Rattle.std.proofs.lemmas.List.{append_assoc, length-append, length-drop, nil_from_length, length-take-le, take-append-drop, take_all, take_more, take_more_set, length-set, get_or-drop}
+use Rattle.std.proofs.lemmas.List.{append_assoc, length-append, length-drop, nil_from_length, length-take-le, take-append-drop, take_more, get_or-drop}
 use Rattle.std.proofs.lemmas.List.{get_or-take, get_or_default}
 use Rattle.std.proofs.lemmas.Bool.{cases_lt}
 use Rattle.std.proofs.lemmas.Option.{same_Some, slice_get_cases, slice_get_past}
 use Rattle.std.proofs.lemmas.List.Elements.{All-nil, All-cons, All-append, All-contains, Contains-append_left, Contains-append_right}
-use Rattle.std.proofs.lemmas.List.Sorted.{searchable_from_sorted}
 use Rattle.std.proofs.lemmas.List.Sums.{sum_by-append, sum_by-cons, sum_by_more}
 use Rattle.joint_machine.specs.declared.names.HNum.{HNum}
 use Rattle.joint_machine.specs.declared.events.Entry.{Entry}
-use Rattle.joint_model.specs.declared.leaders.Leader.{Leader}
-use Rattle.joint_model.specs.Leaders.{follower_of, followers_of, led, spelled, AreFollowed, Starts}
+use Rattle.joint_model.specs.declared.marks.Leader.{Leader}
+use Rattle.joint_model.specs.Following.{follower_of, followers_of}
+use Rattle.joint_model.specs.Leaders.{led, spelled, AreFollowed, Starts}
 use Rattle.joint_model.specs.Merged.{Ascends}
 use Rattle.joint_machine.proofs.Deciding.{none_some}
 use Rattle.joint_machine.proofs.Members.{Contains-at, Contains-here}
-use Rattle.joint_model.proofs.Merging.{compared, not-less}
 use Rattle.joint_model.proofs.Spelling.{length-followers, spelled-append, spelled_length}
 
 -- how many followers leaders have
@@ -37,12 +32,8 @@ starts-of-last : (n : ℕ) (ls : List Leader) (l : Leader) → Starts n (ls ++ l
 starts-of-last n [] l s = (tt, s.0 ∙ omega arith)
 starts-of-last n (m ∷ ls) l s = let w = starts-of-last (n + m.followers) ls l s.1 in ((s.0, w.0), w.1 ∙ omega (arith, sum_by-cons (λ (x : Leader). x.followers) m ls))
 
-pub starts-set : (ls : List Leader) (k : ℕ) (l m : Leader) → k + 1 ≡ length ls → Starts 0 ls → l ≡ slice_index_or ls k l → m.from ≡ l.from → Starts 0 (slice_set ls k m)
-starts-set ls k l m n s there same =
-    let old : ls ≡ take k ls ++ l ∷ [] = sym (take_all (k + 1) ls (omega (arith, n))) ∙ (take_more ls k l (omega (arith, n)) ∙ ap (λ x. take k ls ++ x ∷ []) (sym there)) in
-    let new : slice_set ls k m ≡ take k ls ++ m ∷ [] = sym (take_all (k + 1) (slice_set ls k m) (omega (arith, n, length-set ls k m))) ∙ take_more_set ls k m (omega (arith, n)) in
-    let w = starts-of-last 0 (take k ls) l (subst (Starts 0) old s) in
-    subst (Starts 0) (sym new) (starts-last 0 (take k ls) m w.0 (same ∙ w.1))
+pub starts-set : (ls : List Leader) (l m : Leader) → Starts 0 (ls ++ l ∷ []) → m.from ≡ l.from → Starts 0 (ls ++ m ∷ [])
+starts-set ls l m s same = let w = starts-of-last 0 ls l s in starts-last 0 ls m w.0 (same ∙ w.1)
 
 -- a leader among others starts where those before it end
 starts-at : (n : ℕ) (ls : List Leader) (k : ℕ) (d : Leader) → Starts n ls → k < length ls → (slice_index_or ls k d).from ≡ n + followers_in (take k ls)
@@ -217,86 +208,60 @@ stands-nowhere ls hs k n l w a b past next =
     subst (All P) (sym w.split) (All-append P before (e ∷ (followers_of e 1 own ++ rest)) first
     (All-cons P e (followers_of e 1 own ++ rest) (λ same. omega (arith, same, past)) (All-append P (followers_of e 1 own) rest between above)))
 
--- the leaders are in order too, so a binary search finds its way among them
-adjacent : (ls : List Leader) (hs : List HNum) → Ascends (spelled ls hs) → IsSortedBy (λ x y. is_lt (nat_cmp x.entry.number y.entry.number)) ls
-adjacent [] hs a k d low l = absurd (omega arith)
-adjacent (m ∷ []) hs a k d low l = absurd (omega arith)
-adjacent (m ∷ l ∷ ls) hs a zero d low b =
-    let own = followers_of m.entry 1 (take m.followers hs) in
-    let rest = spelled (l ∷ ls) (drop m.followers hs) in
-    not-less l.entry.number m.entry.number (All-contains (λ (z : Entry). m.entry.number ≤ z.number) (own ++ rest) l.entry a.0
-    (Contains-append_right own rest l.entry (Contains-here l.entry (followers_of l.entry 1 (take l.followers (drop m.followers hs)) ++ spelled ls (drop l.followers (drop m.followers hs))))))
-adjacent (m ∷ l ∷ ls) hs a (suc k) d low b =
-    let next : suc k + 1 ≡ suc (k + 1) = omega arith in
-    let own = followers_of m.entry 1 (take m.followers hs) in
-    rw next (adjacent (l ∷ ls) (drop m.followers hs) (ascends-after own (spelled (l ∷ ls) (drop m.followers hs)) a.1) k d (omega arith) (omega arith))
+-- where a search for a number ends among leaders: the leader before that place has that number or a lower one, and the
+-- one at it has a higher one
+abbrev pub Below : List Leader → ℕ → ℕ → Type 0
+Below ls n at = (d : Leader) → 0 < at → (slice_index_or ls (at - 1) d).entry.number ≤ n
 
-pub searchable : (ls : List Leader) (hs : List HNum) (n : ℕ) → Ascends (spelled ls hs) → IsNonDecreasingBy (λ l. ordering_index (nat_cmp l.entry.number n)) ls
-searchable ls hs n a = searchable_from_sorted nat_cmp_total (λ (l : Leader). l.entry.number) ls n (adjacent ls hs a)
-
--- where a search for a number ends among leaders
-abbrev Point : List Leader → ℕ → ℕ → Type 0
-Point ls n at = IsPartitionPoint (λ (l : Leader). nat_cmp l.entry.number n ≡ Less) (λ l. nat_cmp l.entry.number n ≡ Greater) ls at
-
--- the leader before that place has a lower number, and the one at it has a higher one
-lower : (ls : List Leader) (n at : ℕ) (d : Leader) → Point ls n at → 0 < at → at ≤ length ls → (slice_index_or ls (at - 1) d).entry.number < n
-lower ls n at d p z b = compared (slice_index_or ls (at - 1) d).entry.number n Less (p.0 (at - 1) d (omega (arith, z, b)) (omega (arith, z)))
-
-higher : (ls : List Leader) (n at : ℕ) (d : Leader) → Point ls n at → at < length ls → n < (slice_index_or ls at d).entry.number
-higher ls n at d p b = compared (slice_index_or ls at d).entry.number n Greater (p.1 at d (omega arith) b)
-
-pub no-lower : (ls : List Leader) (n at : ℕ) (d : Leader) → Point ls n at → 0 < at → at ≤ length ls → (slice_index_or ls (at - 1) d).entry.number ≤ n
-no-lower ls n at d p z b = omega (arith, lower ls n at d p z b)
+abbrev pub Above : List Leader → ℕ → ℕ → Type 0
+Above ls n at = (d : Leader) → at < length ls → n < (slice_index_or ls at d).entry.number
 
 -- no leader has so low a number
-pub finds-no-leader : (ls : List Leader) (hs : List HNum) (n at : ℕ) → Point ls n at → at ≡ 0 → Ascends (spelled ls hs) → All (λ e. e.number ≢ n) (spelled ls hs)
-finds-no-leader ls hs n at p z a = high ls hs n a (λ d b. subst (λ k. n < (slice_index_or ls k d).entry.number) z (higher ls n at d p (omega (arith, z, b))))
+pub finds-no-leader : (ls : List Leader) (hs : List HNum) (n at : ℕ) → Above ls n at → at ≡ 0 → Ascends (spelled ls hs) → All (λ e. e.number ≢ n) (spelled ls hs)
+finds-no-leader ls hs n at p z a = high ls hs n a (λ d b. subst (λ k. n < (slice_index_or ls k d).entry.number) z (p d (omega (arith, z, b))))
 
 -- the number lies past the followers of the leader before
-finds-none : (ls : List Leader) (hs : List HNum) (n at : ℕ) (d : Leader) → Point ls n at → AreFollowed ls hs → Starts 0 ls → Ascends (spelled ls hs) → n < 2 ^ 64 → 0 < at → at ≤ length ls
+finds-none : (ls : List Leader) (hs : List HNum) (n at : ℕ) (d : Leader) → Above ls n at → AreFollowed ls hs → Starts 0 ls → Ascends (spelled ls hs) → n < 2 ^ 64 → 0 < at → at ≤ length ls
     → (slice_index_or ls (at - 1) d).followers < n - (slice_index_or ls (at - 1) d).entry.number → All (λ e. e.number ≢ n) (spelled ls hs)
 finds-none ls hs n at d p f s a small z b past =
     let w = around ls hs (at - 1) d f s (omega (arith, z, b)) in
     let next : at - 1 + 1 ≡ at = omega (arith, z) in
     stands-nowhere ls hs (at - 1) n (slice_index_or ls (at - 1) d) w a small (omega (arith, past))
-    (λ e more. subst (λ k. n < (slice_index_or ls k e).entry.number) (sym next) (higher ls n at e p (omega (arith, more, next))))
+    (λ e more. subst (λ k. n < (slice_index_or ls k e).entry.number) (sym next) (p e (omega (arith, more, next))))
 
--- it is that of a leader
-pub finds-leader : (ls : List Leader) (hs : List HNum) (n at : ℕ) (d : Leader) → AreFollowed ls hs → Starts 0 ls → at < length ls → nat_cmp (slice_index_or ls at d).entry.number n ≡ Equal
-    → Contains (spelled ls hs) (slice_index_or ls at d).entry × ((slice_index_or ls at d).entry.number ≡ n)
-finds-leader ls hs n at d f s b same =
-    let l = slice_index_or ls at d in
-    let own = followers_of l.entry 1 (take l.followers (drop l.from hs)) in
-    (stands-led ls hs at l l.entry (around ls hs at d f s b) (Contains-here l.entry own), compared l.entry.number n Equal same)
-
--- it is that of a follower
-finds-follower : (ls : List Leader) (hs : List HNum) (n at : ℕ) (d : Leader) (x : Entry) → Some x ≡ slice_get (led (slice_index_or ls (at - 1) d) hs) (n - (slice_index_or ls (at - 1) d).entry.number)
-    → Point ls n at → AreFollowed ls hs → Starts 0 ls → n < 2 ^ 64 → 0 < at → at ≤ length ls
-    → n - (slice_index_or ls (at - 1) d).entry.number ≤ (slice_index_or ls (at - 1) d).followers → Contains (spelled ls hs) x × (x.number ≡ n)
-finds-follower ls hs n at d x is p f s small z b i =
-    let l = slice_index_or ls (at - 1) d in
-    let w = around ls hs (at - 1) d f s (omega (arith, z, b)) in
-    let under = lower ls n at d p z b in
+-- what so many places after a leader has that number higher
+led-number : (l : Leader) (hs : List HNum) (n i : ℕ) (x : Entry) → l.from + l.followers ≤ length hs → l.entry.number + i ≡ n → n < 2 ^ 64 → i ≤ l.followers
+    → slice_get (led l hs) i ≡ Some x → x.number ≡ n
+led-number l hs n zero x start sum small within is = let first : x.number ≡ l.entry.number = ap (λ (y : Entry). y.number) (same_Some _ _ (sym is)) in omega (arith, first, sum)
+led-number l hs n (suc j) x start sum small within is =
     let h : HNum = record { 0 = 0 } in
-    let follower : x ≡ follower_of l.entry (n - l.entry.number) (slice_index_or hs (l.from + (n - l.entry.number) - 1) h) = same_Some _ _
-    (is ∙ led-follower l hs (n - l.entry.number) h w.start (omega (arith, under)) i) in
-    let number : x.number ≡ n = ap (λ (y : Entry). y.number) follower ∙ omega (arith, under, small) in
-    (stands-led ls hs (at - 1) l x w (Contains-at (led l hs) (n - l.entry.number) x (sym is)), number)
+    let follower : x ≡ follower_of l.entry (suc j) (slice_index_or hs (l.from + suc j - 1) h) = same_Some _ _ (sym is ∙ led-follower l hs (suc j) h start (omega arith) within) in
+    let number : x.number ≡ (l.entry.number + suc j) % 2 ^ 64 = ap (λ (y : Entry). y.number) follower in
+    omega (arith, number, sum, small)
+
+-- something stands at each of those places
+led-some : (l : Leader) (hs : List HNum) (i : ℕ) → l.from + l.followers ≤ length hs → i ≤ l.followers → slice_get (led l hs) i ≡ None → ⊥
+led-some l hs zero start within is = none_some l.entry (sym is)
+led-some l hs (suc j) start within is = none_some _ (sym is ∙ led-follower l hs (suc j) (record { 0 = 0 }) start (omega arith) within)
 
 -- so what stands so many places after that leader is the entry with the number, or there is none
 pub finds-after : (ls : List Leader) (hs : List HNum) (n at : ℕ) (d : Leader) (found : Option Entry)
     → found ≡ slice_get (led (slice_index_or ls (at - 1) d) hs) (n - (slice_index_or ls (at - 1) d).entry.number)
-    → Point ls n at → AreFollowed ls hs → Starts 0 ls → Ascends (spelled ls hs) → n < 2 ^ 64 → 0 < at → at ≤ length ls
+    → Below ls n at → Above ls n at → AreFollowed ls hs → Starts 0 ls → Ascends (spelled ls hs) → n < 2 ^ 64 → 0 < at → at ≤ length ls
     → MatchOption found (All (λ e. e.number ≢ n) (spelled ls hs)) (λ e. Contains (spelled ls hs) e × (e.number ≡ n))
-finds-after ls hs n at d None is p f s a small z b =
+finds-after ls hs n at d None is b p f s a small z w =
     let l = slice_index_or ls (at - 1) d in
     elim (cases_lt l.followers (n - l.entry.number)) [
-      | inl past ↦ finds-none ls hs n at d p f s a small z b past
-      | inr i ↦ absurd (none_some _ (is ∙ led-follower l hs (n - l.entry.number) (record { 0 = 0 }) (leads-there ls hs (at - 1) d f s (omega (arith, z, b))) (omega (arith, lower ls n at d p z b)) i))
+      | inl past ↦ finds-none ls hs n at d p f s a small z w past
+      | inr i ↦ absurd (led-some l hs (n - l.entry.number) (leads-there ls hs (at - 1) d f s (omega (arith, z, w))) i (sym is))
     ]
-finds-after ls hs n at d (Some x) is p f s a small z b =
+finds-after ls hs n at d (Some x) is b p f s a small z w =
     let l = slice_index_or ls (at - 1) d in
+    let there = around ls hs (at - 1) d f s (omega (arith, z, w)) in
     elim (cases_lt l.followers (n - l.entry.number)) [
-      | inl past ↦ absurd (none_some x (sym (is ∙ led-none l hs (n - l.entry.number) (leads-there ls hs (at - 1) d f s (omega (arith, z, b))) past)))
-      | inr i ↦ finds-follower ls hs n at d x is p f s small z b i
+      | inl past ↦ absurd (none_some x (sym (is ∙ led-none l hs (n - l.entry.number) there.start past)))
+      | inr i ↦ (
+        stands-led ls hs (at - 1) l x there (Contains-at (led l hs) (n - l.entry.number) x (sym is)),
+        led-number l hs n (n - l.entry.number) x there.start (omega (arith, b d z)) small i (sym is),
+      )
     ]

@@ -1,12 +1,13 @@
 -- How leaders and handles spell entries: what comes last, and how many there are.
-use Rattle.std.proofs.Common.{◌≡◌, ℕ, suc, ◌+◌, ◌-◌, ◌%◌, ◌^◌, ◌<◌, ◌≤◌, List, [], ◌∷◌, ◌++◌, length, take, drop, sum_by, Some, slice_index_or, slice_set, arith, refl, subst, sym, ap, ◌∙◌}
-use Rattle.std.proofs.lemmas.List.{append-nil, append_assoc, length-append, length-drop, take-append-le, drop-append-le, take-append-drop, take_all, length-take-le, take_more, take_more_set}
-use Rattle.std.proofs.lemmas.List.{length-set, nil_from_length}
-use Rattle.std.proofs.lemmas.List.Sums.{sum_by-cons, sum_by_more}
+use Rattle.std.proofs.Common.{◌≡◌, ℕ, suc, ◌+◌, ◌-◌, ◌%◌, ◌^◌, ◌<◌, ◌≤◌, List, [], ◌∷◌, ◌++◌, length, take, drop, sum_by, Some, arith, refl, subst, sym, ap, ◌∙◌}
+use Rattle.std.proofs.lemmas.List.{append-nil, append_assoc, length-append, length-drop, take-append-le, drop-append-le, take-append-drop, take_all, length-take-le}
+use Rattle.std.proofs.lemmas.List.{nil_from_length}
+use Rattle.std.proofs.lemmas.List.Sums.{sum_by-cons, sum_by_push}
 use Rattle.joint_machine.specs.declared.names.HNum.{HNum}
 use Rattle.joint_machine.specs.declared.events.Entry.{Entry}
-use Rattle.joint_model.specs.declared.leaders.Leader.{Leader}
-use Rattle.joint_model.specs.Leaders.{follower_of, followers_of, spelled, AreFollowed}
+use Rattle.joint_model.specs.declared.marks.Leader.{Leader}
+use Rattle.joint_model.specs.Following.{follower_of, followers_of}
+use Rattle.joint_model.specs.Leaders.{spelled, AreFollowed}
 use Rattle.joint_model.specs.Merged.{first_number}
 
 -- the first of some followers has the number of that place
@@ -61,46 +62,48 @@ followers-last e i [] h = ap (λ n. follower_of e n h ∷ []) (omega arith)
 followers-last e i (g ∷ hs) h = ap (λ es. follower_of e i g ∷ es) (followers-last e (suc i) hs h ∙ ap (λ n. followers_of e (suc i) hs ++ follower_of e n h ∷ []) (omega arith))
 
 -- the last leader of some, with those before it and the handles of both
-pub record Ends (ls : List Leader) (hs : List HNum) (k : ℕ) (l : Leader) : Type 0 where
-  pub first : AreFollowed (take k ls) (take (length hs - l.followers) hs)
+record Ends (ls : List Leader) (hs : List HNum) (l : Leader) : Type 0 where
+  pub first : AreFollowed ls (take (length hs - l.followers) hs)
   pub own : l.followers ≡ length (drop (length hs - l.followers) hs)
-  pub leaders : take (k + 1) ls ≡ take k ls ++ l ∷ []
 
-pub ends-at : (ls : List Leader) (hs : List HNum) (k : ℕ) (d : Leader) → k < length ls → AreFollowed (take (k + 1) ls) hs → Ends ls hs k (slice_index_or ls k d)
-ends-at ls hs k d within f =
-    let l = slice_index_or ls k d in
-    let split : take (k + 1) ls ≡ take k ls ++ l ∷ [] = take_more ls k d within in
-    let sum : sum_by (λ (x : Leader). x.followers) (take (k + 1) ls) ≡ sum_by (λ x. x.followers) (take k ls) + l.followers = sum_by_more (λ (x : Leader). x.followers) ls k d within in
+ends-at : (ls : List Leader) (hs : List HNum) (l : Leader) → AreFollowed (ls ++ l ∷ []) hs → Ends ls hs l
+ends-at ls hs l f =
+    let sum : sum_by (λ (x : Leader). x.followers) (ls ++ l ∷ []) ≡ sum_by (λ x. x.followers) ls + l.followers = sum_by_push (λ (x : Leader). x.followers) ls l in
     let fits : length hs - l.followers ≤ length hs = omega arith in
     record {
       first = omega (arith, sum, f, length-take-le (length hs - l.followers) hs fits);
       own = omega (arith, sum, f, length-drop (length hs - l.followers) hs);
-      leaders = split;
     }
 
 -- one follower more of the last leader
-pub follower-last : (ls : List Leader) (hs : List HNum) (k : ℕ) (l m : Leader) (h : HNum) → k + 1 ≡ length ls → AreFollowed ls hs
-    → l ≡ slice_index_or ls k l → m.entry ≡ l.entry → m.followers ≡ l.followers + 1
-    → spelled (slice_set ls k m) (hs ++ h ∷ []) ≡ spelled ls hs ++ follower_of l.entry (l.followers + 1) h ∷ []
-follower-last ls hs k l m h n f there same one =
+pub follower-last : (ls : List Leader) (hs : List HNum) (l m : Leader) (h : HNum) → AreFollowed (ls ++ l ∷ []) hs → m.entry ≡ l.entry → m.followers ≡ l.followers + 1
+    → spelled (ls ++ m ∷ []) (hs ++ h ∷ []) ≡ spelled (ls ++ l ∷ []) hs ++ follower_of l.entry (l.followers + 1) h ∷ []
+follower-last ls hs l m h f same one =
     let e = l.entry in
-    let init = take k ls in
     let first = take (length hs - l.followers) hs in
     let own = drop (length hs - l.followers) hs in
-    let all : take (k + 1) ls ≡ ls = take_all (k + 1) ls (omega (arith, n)) in
-    let w : Ends ls hs k l = subst (Ends ls hs k) (sym there) (ends-at ls hs k l (omega (arith, n)) (rw all f)) in
-    let old : ls ≡ init ++ l ∷ [] = sym all ∙ w.leaders in
-    let new : slice_set ls k m ≡ init ++ m ∷ [] = sym (take_all (k + 1) (slice_set ls k m) (omega (arith, n, length-set ls k m))) ∙ take_more_set ls k m (omega (arith, n)) in
+    let w : Ends ls hs l = ends-at ls hs l f in
     let handles : first ++ own ≡ hs = take-append-drop (length hs - l.followers) hs in
-    let before : spelled ls hs ≡ spelled init first ++ e ∷ followers_of e 1 own = ap (λ xs. spelled xs hs) old
-    ∙ ap (spelled (init ++ l ∷ [])) (sym handles) ∙ spelled-last init l first own w.first w.own in
+    let before : spelled (ls ++ l ∷ []) hs ≡ spelled ls first ++ e ∷ followers_of e 1 own =
+    ap (spelled (ls ++ l ∷ [])) (sym handles) ∙ spelled-last ls l first own w.first w.own in
     let size : m.followers ≡ length (own ++ h ∷ []) = omega (arith, one, w.own, length-append own (h ∷ [])) in
     let longer : hs ++ h ∷ [] ≡ first ++ (own ++ h ∷ []) = ap (λ gs. gs ++ h ∷ []) (sym handles) ∙ append_assoc first own (h ∷ []) in
-    let after : spelled (slice_set ls k m) (hs ++ h ∷ []) ≡ spelled init first ++ m.entry ∷ followers_of m.entry 1 (own ++ h ∷ []) =
-    ap (λ xs. spelled xs (hs ++ h ∷ [])) new ∙ ap (spelled (init ++ m ∷ [])) longer ∙ spelled-last init m first (own ++ h ∷ []) w.first size in
+    let after : spelled (ls ++ m ∷ []) (hs ++ h ∷ []) ≡ spelled ls first ++ m.entry ∷ followers_of m.entry 1 (own ++ h ∷ []) =
+    ap (spelled (ls ++ m ∷ [])) longer ∙ spelled-last ls m first (own ++ h ∷ []) w.first size in
     let last : followers_of e 1 (own ++ h ∷ []) ≡ followers_of e 1 own ++ follower_of e (l.followers + 1) h ∷ [] = followers-last e 1 own h
     ∙ ap (λ i. followers_of e 1 own ++ follower_of e i h ∷ []) (omega (arith, w.own)) in
-    after ∙ (ap (λ x. spelled init first ++ x ∷ followers_of x 1 (own ++ h ∷ [])) same
-    ∙ (ap (λ es. spelled init first ++ e ∷ es) last
-    ∙ (sym (append_assoc (spelled init first) (e ∷ followers_of e 1 own) (follower_of e (l.followers + 1) h ∷ []))
+    after ∙ (ap (λ x. spelled ls first ++ x ∷ followers_of x 1 (own ++ h ∷ [])) same
+    ∙ (ap (λ es. spelled ls first ++ e ∷ es) last
+    ∙ (sym (append_assoc (spelled ls first) (e ∷ followers_of e 1 own) (follower_of e (l.followers + 1) h ∷ []))
     ∙ ap (λ es. es ++ follower_of e (l.followers + 1) h ∷ []) (sym before))))
+
+-- and there is a handle for it
+pub followed-last : (ls : List Leader) (hs : List HNum) (l m : Leader) (h : HNum) → AreFollowed (ls ++ l ∷ []) hs → m.followers ≡ l.followers + 1 → AreFollowed (ls ++ m ∷ []) (hs ++ h ∷ [])
+followed-last ls hs l m h f one = omega (
+  arith,
+  f,
+  one,
+  sum_by_push (λ (x : Leader). x.followers) ls l,
+  sum_by_push (λ (x : Leader). x.followers) ls m,
+  length-append hs (h ∷ []),
+)

@@ -6,7 +6,7 @@ use Rattle.std.proofs.lemmas.Bool.{cases_lt, ltb-true, ltb-false}
 use Rattle.joint_machine.specs.declared.names.HNum.{HNum}
 use Rattle.joint_machine.specs.declared.events.Entry.{Entry}
 use Rattle.joint_machine.specs.Histories.{NumberedFrom}
-use Rattle.joint_model.specs.Leaders.{follower_of, followers_of}
+use Rattle.joint_model.specs.Following.{follower_of, followers_of}
 use Rattle.joint_model.specs.Merged.{entries_below, entries_from, merged, GoesOnInOther, IsNumbered}
 use Rattle.joint_machine.proofs.Members.{Contains-here}
 use Rattle.joint_model.proofs.Merging.{merged-other, NumberedFrom-high}

@@ -1,3 +1,6 @@
 pub mod Listed
 pub mod Merged
 pub mod Leaders
+pub mod Packed
+pub mod Marks
+pub mod Following

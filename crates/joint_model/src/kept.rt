@@ -1,10 +1,11 @@
 // Entries as they are kept: most of a large cycle as their handles alone.
 
 ghost use Rattle.std.specs.Prelude.{◌≡◌, ◌≢◌, All, Contains, MatchOption, ◌+◌, ◌≤◌, ◌<◌, ◌==◌, [], ◌∷◌, ◌++◌, length};
-ghost use Rattle.std.specs.Prelude.{slice_get, vec_len, vec_capacity, IfOk, OnErr, OnOk};
+ghost use Rattle.std.specs.Prelude.{slice_get, IfOk, OnErr};
 ghost use Rattle.joint_model.specs.Merged.{Ascends};
 
-use crate::leaders::{Leader, Rest, entry_at, entry_with, put_follower};
+use crate::leaders::{Rest, entry_at, entry_with, put_follower};
+use crate::marks::{Leaders, make_room};
 use joint_machine::{Entry, HNum};
 use std::alloc::{AllocError, Global};
 use std::marker::Model;
@@ -12,47 +13,35 @@ use std::marker::Model;
 /// The most entries that a list holds.
 pub(crate) const MOST: u32 = 4_294_967_295;
 
-/// For how many entries room is made at least, where there is memory for them: 32 MiB, and 2 MiB for those that are
-/// kept by their handles. Room that nothing is put into takes no memory, and so large a piece lies outside of the
-/// allocator's heap: where it grows, its pages are moved and no entry is copied.
+/// For how many entries room is made at least, where there is memory for them: 22 MiB, 10 MiB for the marks of those
+/// that have followers or high numbers, and 2 MiB for those that are kept by their handles. Room that nothing is put
+/// into takes no memory, and so large a piece lies outside of the allocator's heap: where it grows, its pages are moved
+/// and no entry is copied.
 pub(crate) const BLOCK: usize = 524_288;
 
-/// Entries in the order in which they were put, and room for more of them. An entry takes at most 64 bytes, or four:
-/// see [`Kept::push_handle`].
+/// Entries in the order in which they were put, and room for more of them. An entry takes 44 bytes, and 20 more where it
+/// has followers or high numbers; or four: see [`Kept::push_handle`].
 #[derive(Drop)]
 pub(crate) struct Kept {
-    leaders: Vec<Leader>,
+    leaders: Leaders,
     followers: Vec<HNum>,
     spare: u32,
 }
 
 impl Model for Kept {
-    ghost use Rattle.std.specs.Prelude.{◌+◌, ◌≤◌, vec_len, vec_capacity};
+    ghost use Rattle.std.specs.Prelude.{◌+◌, ◌≤◌, length, vec_len, vec_capacity};
     ghost use Rattle.joint_model.specs.Leaders.{spelled, AreFollowed, Starts};
     ghost use Rattle.joint_model.specs.Listed.{Shelf};
     ghost use Rattle.joint_machine.specs.Numbers.{u32_max};
 
     ghost Value = { Shelf };
 
-    ghost view = { λ s. record { entries = spelled s.leaders.items s.followers.items; spare = s.spare } };
+    ghost view = { λ s. record { entries = spelled s.leaders.all s.followers.items; spare = s.spare } };
 
-    ghost invariant = { λ s. AreFollowed s.leaders.items s.followers.items × Starts 0 s.leaders.items
-        × (vec_len s.leaders + vec_len s.followers + s.spare ≤ u32_max)
-        × (vec_len s.leaders + s.spare ≤ vec_capacity s.leaders)
+    ghost invariant = { λ s. AreFollowed s.leaders.all s.followers.items × Starts 0 s.leaders.all
+        × (length s.leaders.all + vec_len s.followers + s.spare ≤ u32_max)
+        × (s.spare ≤ s.leaders.room) × (s.spare ≤ s.leaders.room_of_marks)
         × (vec_len s.followers + s.spare ≤ vec_capacity s.followers) };
-}
-
-// Makes room for at least `n` more items, and for a whole block of them where there is memory for it. Answers
-// `AllocError` where there is no memory for `n`.
-fn make_room<T>(list: &mut Vec<T>, n: usize, block: usize) -> Result<(), AllocError>
-    ensures room { OnOk result (vec_len list.new + n ≤ vec_capacity list.new) }
-    ensures kept { vec_capacity list.old ≤ vec_capacity list.new }
-    ensures items { list.new.items ≡ list.old.items }
-{
-    if list.reserve(n.max(block)).is_ok() {
-        return Ok(());
-    }
-    list.reserve(n)
 }
 
 impl Kept {
@@ -61,7 +50,7 @@ impl Kept {
         ensures { result ≡ record { entries = []; spare = 0 } }
     {
         Kept {
-            leaders: Vec::new(alloc),
+            leaders: Leaders::new(alloc),
             followers: Vec::new(alloc),
             spare: 0,
         }
@@ -84,9 +73,9 @@ impl Kept {
         if n > most {
             return Err(AllocError);
         }
-        make_room(&mut self.leaders, n, block)?;
+        self.leaders.grow(n, block)?;
         make_room(&mut self.followers, n, block)?;
-        let room = self.leaders.capacity() - self.leaders.len();
+        let room = self.leaders.room().min(self.leaders.room_of_marks());
         let room_of_followers = self.followers.capacity() - self.followers.len();
         self.spare = room.min(room_of_followers).min(most) as u32;
         Ok(())
@@ -99,8 +88,7 @@ impl Kept {
         ensures entries { self.new.entries ≡ self.old.entries ++ entry ∷ [] }
         ensures spare { self.new.spare + 1 ≡ self.old.spare }
     {
-        let leader = Leader::new(entry, self.followers.len());
-        self.leaders.push_reserved(leader);
+        self.leaders.push(entry, self.followers.len());
         self.spare -= 1;
     }
 
@@ -151,15 +139,11 @@ impl Kept {
     }
 
     /// The entry at place `i`, from 0; None exactly where `i` isn't below the length. It is searched for among the
-    /// leaders.
+    /// leaders, in a time that goes by the square of the logarithm of their number.
     pub(crate) fn at(&self, i: u32) -> Option<Entry>
         ensures { result ≡ slice_get self.now.entries i }
     {
-        entry_at(
-            self.leaders.as_slice(),
-            self.followers.as_slice(),
-            i as usize,
-        )
+        entry_at(&self.leaders, self.followers.as_slice(), i as usize)
     }
 
     /// The entry with the number, where the numbers rise; None where none has it.
@@ -168,7 +152,7 @@ impl Kept {
         ensures { MatchOption result (All (λ e. e.number ≢ number) self.now.entries)
             (λ e. Contains self.now.entries e × (e.number ≡ number)) }
     {
-        entry_with(self.leaders.as_slice(), self.followers.as_slice(), number)
+        entry_with(&self.leaders, self.followers.as_slice(), number)
     }
 
     /// All leaders, with their followers.
@@ -177,6 +161,6 @@ impl Kept {
         ensures all { result ≡ self.now.entries }
         ensures limit { length result ≤ u32.MAX }
     {
-        Rest::new(self.leaders.as_slice(), self.followers.as_slice())
+        Rest::new(&self.leaders, self.followers.as_slice())
     }
 }

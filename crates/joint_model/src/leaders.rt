@@ -1,26 +1,18 @@
 // How a list keeps its entries: where one differs from the one before it by its number, one higher, and by the handle
 // that it weakens or restores, the handle alone is kept. A cycle over many candidates makes many such entries.
 
-ghost use Rattle.std.specs.Prelude.{◌≡◌, ◌≢◌, All, Contains, ◌+◌, ◌<◌, ◌≤◌, ◌^◌, ◌↔◌, List, [], ◌∷◌, ◌++◌, length};
-ghost use Rattle.std.specs.Prelude.{slice_get, slice_index_or, vec_len, vec_capacity, IfSome, IsTrue, IsFalse};
-ghost use Rattle.std.specs.Prelude.{MatchOption};
-ghost use Rattle.joint_model.specs.Leaders.{follower_of, followers_of, led, reply_after, spelled, AreFollowed, Starts};
+ghost use Rattle.std.specs.Prelude.{◌≡◌, ◌≢◌, All, Contains, ◌+◌, ◌-◌, ◌<◌, ◌≤◌, ◌^◌, ◌↔◌, List, [], ◌∷◌, ◌++◌, length};
+ghost use Rattle.std.specs.Prelude.{slice_get, slice_index_or, vec_len, vec_capacity, IsTrue, MatchOption};
+ghost use Rattle.joint_model.specs.Following.{follower_of, followers_of};
+ghost use Rattle.joint_model.specs.Leaders.{entry_of, led, spelled, AreFollowed, Starts};
+ghost use Rattle.joint_model.specs.Marks.{leaders_of};
 ghost use Rattle.joint_model.specs.Merged.{Ascends, IsNextInOther, first_number, merged, IsNumbered};
+ghost use Rattle.joint_model.specs.Packed.{entry_high};
 
+use crate::marks::{Leader, Leaders, Mark};
 use crate::packed::{EntryParts, PackedEntry};
 use joint_machine::{Entry, HNum, Made, Op, Reply, Thread};
 use std::marker::Model;
-
-/// An entry, and how many after it differ from it by their numbers and handles alone. The handles of those stand from
-/// place `from` on.
-#[derive(Drop)]
-pub(crate) struct Leader {
-    pub(crate) entry: PackedEntry,
-    from: u32,
-    pub(crate) followers: u32,
-}
-
-const _: () = prove!(size_of::<Leader>() <= 64);
 
 // An entry for where there is none: nothing follows it.
 pub(crate) const NO_ENTRY: Entry = Entry {
@@ -54,148 +46,101 @@ pub(crate) fn follower(first: &Entry, i: u64, h: HNum) -> Entry
     entry
 }
 
-// The handle of an entry that is the next follower of a leader's entry, which has so many; None where it isn't.
-#[inline(always)]
-fn next_handle(first: &Entry, followers: u32, entry: &Entry) -> Option<HNum>
-    ensures { IfSome result (λ h. (followers < u32.MAX) × (entry.now ≡ follower_of first.now (followers + 1) h)) }
+// The entry `i` places after a leader's, where those are the handles of its list; None exactly where it has fewer
+// followers.
+fn entry_after(leader: &Leader, followers: &[HNum], i: u64) -> Option<Entry>
+    requires { leader.now.from + leader.now.followers ≤ length followers.now }
+    ensures { result ≡ slice_get (led leader.now followers.now) i }
 {
-    if followers == u32::MAX {
+    if i > leader.followers as u64 {
         return None;
     }
-    let (made, own) = (&entry.made, &first.made);
-    let h = match (&made.op, &own.op) {
-        (Op::Weaken { h }, Op::Weaken { .. }) | (Op::Restore { h }, Op::Restore { .. }) => *h,
-        _ => return None,
-    };
-    let next = followers + 1;
-    if is_reply_after(&own.reply, next, &made.reply)
-        && entry.number == first.number.wrapping_add(next as u64)
-        && made.caller == own.caller
-        && made.index == own.index
-        && made.cites == own.cites
-    {
-        Some(h)
-    } else {
-        None
+    if i == 0 {
+        return Some(leader.entry);
     }
-}
-
-impl Leader {
-    // The entry, with no follower yet. The handles of those will stand from place `from` on.
-    #[inline(always)]
-    pub(crate) fn new(entry: Entry, from: usize) -> Leader
-        requires { from ≤ u32.MAX }
-        ensures { result ≡ record { entry = entry; from = from; followers = 0 } }
-    {
-        Leader {
-            entry: PackedEntry::pack(entry),
-            from: from as u32,
-            followers: 0,
-        }
-    }
-
-    // The entry `i` places after it, where those are the handles of its list; None exactly where it has fewer
-    // followers.
-    fn entry_after(&self, followers: &[HNum], i: u64) -> Option<Entry>
-        requires { self.now.from + self.now.followers ≤ length followers.now }
-        ensures { result ≡ slice_get (led self.now followers.now) i }
-    {
-        if i > self.followers as u64 {
-            return None;
-        }
-        if i == 0 {
-            return Some(self.entry.unpack());
-        }
-        let h = followers[self.from as usize + i as usize - 1];
-        Some(follower(&self.entry.unpack(), i, h))
-    }
-
-    // The handle of an entry that is its next follower; None where it isn't.
-    #[inline(always)]
-    fn next_handle(&self, entry: &Entry) -> Option<HNum>
-        ensures { IfSome result (λ h. (self.now.followers < u32.MAX)
-            × (entry.now ≡ follower_of self.now.entry (self.now.followers + 1) h)) }
-    {
-        next_handle(&self.entry.unpack(), self.followers, entry)
-    }
-}
-
-// Whether a reply is that of follower `i`: the same, or the handle that a restore gave is `i` higher. Other replies
-// than those of a weakening and a restore don't count.
-#[inline(always)]
-fn is_reply_after(own: &Reply, i: u32, reply: &Reply) -> bool
-    ensures { IsTrue result → reply.now ≡ reply_after own.now i }
-{
-    match (own, reply) {
-        (Reply::Renewed(first), Reply::Renewed(h)) => h.0 == first.0.wrapping_add(i),
-        (Reply::Ok, Reply::Ok) | (Reply::Cleared, Reply::Cleared) => true,
-        _ => false,
-    }
+    let h = followers[leader.from + i as usize - 1];
+    Some(follower(&leader.entry, i, h))
 }
 
 // Puts an entry last, as a follower of the last leader where it is that, else as a leader of its own. It takes no
 // memory.
 #[inline(always)]
-pub(crate) fn put_follower(leaders: &mut Vec<Leader>, followers: &mut Vec<HNum>, entry: Entry)
-    requires followed { AreFollowed leaders.old.items followers.old.items }
-    requires starts { Starts 0 leaders.old.items }
-    requires limit { vec_len followers.old ≤ u32.MAX }
-    requires room { vec_len leaders.old < vec_capacity leaders.old }
+pub(crate) fn put_follower(leaders: &mut Leaders, followers: &mut Vec<HNum>, entry: Entry)
+    requires followed { AreFollowed leaders.old.all followers.old.items }
+    requires starts { Starts 0 leaders.old.all }
+    requires limit { length leaders.old.all + vec_len followers.old ≤ u32.MAX }
+    requires room { (1 ≤ leaders.old.room) × (1 ≤ leaders.old.room_of_marks) }
     requires room_of_followers { vec_len followers.old < vec_capacity followers.old }
-    ensures followed { AreFollowed leaders.new.items followers.new.items }
-    ensures starts { Starts 0 leaders.new.items }
-    ensures entries { spelled leaders.new.items followers.new.items ≡ spelled
-        leaders.old.items followers.old.items ++ entry ∷ [] }
-    ensures len { vec_len leaders.new + vec_len followers.new ≡ vec_len leaders.old + vec_len followers.old + 1 }
-    ensures fits { (vec_len leaders.new ≤ vec_len leaders.old + 1)
+    ensures followed { AreFollowed leaders.new.all followers.new.items }
+    ensures starts { Starts 0 leaders.new.all }
+    ensures entries { spelled leaders.new.all followers.new.items ≡ spelled
+        leaders.old.all followers.old.items ++ entry ∷ [] }
+    ensures fits { (leaders.old.room ≤ leaders.new.room + 1)
+        × (leaders.old.room_of_marks ≤ leaders.new.room_of_marks + 1)
         × (vec_len followers.new ≤ vec_len followers.old + 1) }
-    ensures capacity { (vec_capacity leaders.new ≡ vec_capacity leaders.old)
-        × (vec_capacity followers.new ≡ vec_capacity followers.old) }
+    ensures capacity { vec_capacity followers.new ≡ vec_capacity followers.old }
 {
-    let n = leaders.len();
-    if n > 0
-        && let Some(h) = leaders[n - 1].next_handle(&entry)
-    {
-        leaders[n - 1].followers += 1;
+    let from = followers.len();
+    if let Some(h) = leaders.follow(&entry, from) {
         followers.push_reserved(h);
         return;
     }
-    leaders.push_reserved(Leader::new(entry, followers.len()));
+    leaders.push(entry, from);
 }
 
-// The entry with the number, of a list in the order of its numbers; None where none has it.
-pub(crate) fn entry_with(leaders: &[Leader], followers: &[HNum], number: u64) -> Option<Entry>
-    requires followed { AreFollowed leaders.now followers.now }
-    requires starts { Starts 0 leaders.now }
-    requires ascends { Ascends (spelled leaders.now followers.now) }
-    ensures { MatchOption result (All (λ e. e.number ≢ number) (spelled leaders.now followers.now))
-        (λ e. Contains (spelled leaders.now followers.now) e × (e.number ≡ number)) }
+// How many leaders have the number or a lower one, where the numbers rise.
+fn leaders_below(leaders: &Leaders, number: u64) -> usize
+    ensures within { result ≤ length leaders.now.all }
+    ensures below { (d : _) → 0 < result → (slice_index_or leaders.now.all (result - 1) d).entry.number ≤ number }
+    ensures above { (d : _) → result < length leaders.now.all
+        → number < (slice_index_or leaders.now.all result d).entry.number }
 {
-    match leaders.binary_search_by_key(&number, |leader| leader.entry.number()) {
-        Ok(at) => Some(leaders[at].entry.unpack()),
-        Err(0) => None,
-        Err(at) => {
-            let leader = &leaders[at - 1];
-            leader.entry_after(followers, number - leader.entry.number())
+    let mut low = 0;
+    let mut high = leaders.len();
+    while low < high {
+        let middle = low + (high - low) / 2;
+        if leaders.at(middle).entry.number <= number {
+            low = middle + 1;
+        } else {
+            high = middle;
         }
     }
+    low
+}
+
+// The entry with the number, of a list in the order of its numbers; None where none has it. The time goes by the square
+// of the logarithm of the number of leaders, since the mark of each is searched for.
+pub(crate) fn entry_with(leaders: &Leaders, followers: &[HNum], number: u64) -> Option<Entry>
+    requires followed { AreFollowed leaders.now.all followers.now }
+    requires starts { Starts 0 leaders.now.all }
+    requires ascends { Ascends (spelled leaders.now.all followers.now) }
+    ensures { MatchOption result (All (λ e. e.number ≢ number) (spelled leaders.now.all followers.now))
+        (λ e. Contains (spelled leaders.now.all followers.now) e × (e.number ≡ number)) }
+{
+    let at = leaders_below(leaders, number);
+    if at == 0 {
+        return None;
+    }
+    let leader = leaders.at(at - 1);
+    entry_after(&leader, followers, number - leader.entry.number)
 }
 
 // The last leader that stands at the place or before it. A leader stands after those before it and all that follow
 // them.
-fn leader_before(leaders: &[Leader], place: usize) -> usize
-    requires some { 0 < length leaders.now }
-    requires starts { Starts 0 leaders.now }
-    ensures leader { result < length leaders.now }
-    ensures before { (d : _) → result + (slice_index_or leaders.now result d).from ≤ place }
-    ensures next { (d : _) → result + 1 < length leaders.now
-        → place < result + 1 + (slice_index_or leaders.now (result + 1) d).from }
+fn leader_before(leaders: &Leaders, place: usize) -> usize
+    requires some { 0 < length leaders.now.all }
+    requires limit { length leaders.now.all ≤ u32.MAX }
+    requires starts { Starts 0 leaders.now.all }
+    ensures leader { result < length leaders.now.all }
+    ensures before { (d : _) → result + (slice_index_or leaders.now.all result d).from ≤ place }
+    ensures next { (d : _) → result + 1 < length leaders.now.all
+        → place < result + 1 + (slice_index_or leaders.now.all (result + 1) d).from }
 {
     let mut low = 0;
     let mut high = leaders.len();
     while high - low > 1 {
         let middle = low + (high - low) / 2;
-        if middle + leaders[middle].from as usize <= place {
+        if middle + leaders.at(middle).from <= place {
             low = middle;
         } else {
             high = middle;
@@ -204,33 +149,60 @@ fn leader_before(leaders: &[Leader], place: usize) -> usize
     low
 }
 
-// The entry at the place of a list, from 0; None exactly past the end.
-pub(crate) fn entry_at(leaders: &[Leader], followers: &[HNum], place: usize) -> Option<Entry>
-    requires followed { AreFollowed leaders.now followers.now }
-    requires starts { Starts 0 leaders.now }
-    ensures { result ≡ slice_get (spelled leaders.now followers.now) place }
+// The entry at the place of a list, from 0; None exactly past the end. The time goes by the square of the logarithm of
+// the number of leaders.
+pub(crate) fn entry_at(leaders: &Leaders, followers: &[HNum], place: usize) -> Option<Entry>
+    requires followed { AreFollowed leaders.now.all followers.now }
+    requires starts { Starts 0 leaders.now.all }
+    requires limit { length leaders.now.all ≤ u32.MAX }
+    ensures { result ≡ slice_get (spelled leaders.now.all followers.now) place }
 {
-    if leaders.is_empty() {
+    if leaders.len() == 0 {
         return None;
     }
     let at = leader_before(leaders, place);
-    let leader = &leaders[at];
-    leader.entry_after(followers, (place - at - leader.from as usize) as u64)
+    let leader = leaders.at(at);
+    entry_after(&leader, followers, (place - at - leader.from) as u64)
 }
 
 /// An entry that a walk comes to.
 #[derive(Drop)]
 pub enum Step<'a> {
-    /// One that its list keeps.
+    /// One that its list keeps, whose high halves are zero.
     Kept(&'a PackedEntry),
-    /// One of which the list keeps the handle alone.
+    /// One of which the list keeps the handle alone, or high halves beside it.
     Spelled(Entry),
+}
+
+impl<'a> Step<'a> {
+    // The entry.
+    #[inline(always)]
+    pub(crate) fn entry(&self) -> Entry
+        ensures { result ≡ entry_of self.now }
+    {
+        match self {
+            Step::Kept(packed) => packed.unpack(),
+            Step::Spelled(entry) => *entry,
+        }
+    }
+}
+
+// A leader's entry with the high halves that its mark has.
+#[inline(always)]
+fn step_of<'a>(entry: &'a PackedEntry, mark: &Mark) -> Step<'a>
+    ensures { entry_of result ≡ entry_high entry.now mark.now.number_high mark.now.cited_high }
+{
+    if mark.number_high == 0 && mark.cited_high == 0 {
+        return Step::Kept(entry);
+    }
+    Step::Spelled(entry.unpack_high(mark.number_high, mark.cited_high))
 }
 
 /// The leaders of a list that are still to come, with their followers.
 #[derive(Drop)]
 pub(crate) struct Rest<'a> {
-    leaders: &'a [Leader],
+    entries: &'a [PackedEntry],
+    marks: &'a [Mark],
     followers: &'a [HNum],
 }
 
@@ -238,21 +210,27 @@ impl<'a> Model for Rest<'a> {
     ghost use Rattle.std.specs.Prelude.{List};
     ghost use Rattle.joint_machine.specs.declared.events.Entry.{Entry};
     ghost use Rattle.joint_model.specs.Leaders.{spelled, AreFollowed};
+    ghost use Rattle.joint_model.specs.Marks.{leaders_of};
 
     ghost Value = { List Entry };
 
-    ghost view = { λ r. spelled r.leaders.now r.followers.now };
+    ghost view = { λ r. spelled (leaders_of 0 r.entries.now r.marks.now) r.followers.now };
 
-    ghost invariant = { λ r. AreFollowed r.leaders.now r.followers.now };
+    ghost invariant = { λ r. AreFollowed (leaders_of 0 r.entries.now r.marks.now) r.followers.now };
 }
 
 impl<'a> Rest<'a> {
     // All leaders of a list.
-    pub(crate) fn new(leaders: &'a [Leader], followers: &'a [HNum]) -> Rest<'a>
-        requires { AreFollowed leaders.now followers.now }
-        ensures { result ≡ spelled leaders.now followers.now }
+    pub(crate) fn new(leaders: &'a Leaders, followers: &'a [HNum]) -> Rest<'a>
+        requires { AreFollowed leaders.now.all followers.now }
+        ensures { result ≡ spelled leaders.now.all followers.now }
     {
-        Rest { leaders, followers }
+        let (entries, marks) = leaders.parts();
+        Rest {
+            entries,
+            marks,
+            followers,
+        }
     }
 
     // The number of the next leader; None where none is left.
@@ -260,24 +238,35 @@ impl<'a> Rest<'a> {
     pub(crate) fn number(&self) -> Option<u64>
         ensures { result ≡ first_number self.now }
     {
-        Some(self.leaders.first()?.entry.number())
+        let entry = self.entries.first()?;
+        if !entry.marked {
+            return Some(entry.number());
+        }
+        match self.marks.first() {
+            Some(mark) => Some(entry.number_high(mark.number_high)),
+            None => Some(entry.number()),
+        }
     }
 
     // Takes the next leader, with the handles of its followers; None where none is left.
     #[inline(always)]
-    pub(crate) fn next(&mut self) -> Option<(&'a Leader, &'a [HNum])>
+    pub(crate) fn next(&mut self) -> Option<(Step<'a>, &'a [HNum])>
         ensures { MatchOption result ((self.old ≡ []) × (self.new ≡ []))
-            (λ next. (self.old ≡ next.0.now.entry ∷ (followers_of next.0.now.entry 1 next.1.now ++ self.new))
+            (λ next. (self.old ≡ entry_of next.0 ∷ (followers_of (entry_of next.0) 1 next.1.now ++ self.new))
             × (length next.1.now ≤ u32.MAX)) }
     {
-        let (leader, rest) = self.leaders.split_first()?;
-        self.leaders = rest;
-        if leader.followers == 0 {
-            return Some((leader, &[]));
+        let (entry, entries) = self.entries.split_first()?;
+        self.entries = entries;
+        if !entry.marked {
+            return Some((Step::Kept(entry), &[]));
         }
-        let (own, others) = self.followers.split_at(leader.followers as usize);
+        let Some((mark, marks)) = self.marks.split_first() else {
+            return Some((Step::Kept(entry), &[]));
+        };
+        self.marks = marks;
+        let (own, others) = self.followers.split_at(mark.followers as usize);
         self.followers = others;
-        Some((leader, own))
+        Some((step_of(entry, mark), own))
     }
 }
 
@@ -298,11 +287,11 @@ pub(crate) fn is_next_in_other(one: Option<u64>, other: Option<u64>) -> bool
 pub(crate) fn next_leader<'a>(
     one: &mut Rest<'a>,
     other: &mut Rest<'a>,
-) -> Option<(&'a Leader, &'a [HNum])>
+) -> Option<(Step<'a>, &'a [HNum])>
     requires { IsNumbered (merged one.old other.old) }
     ensures { MatchOption result ((merged one.old other.old ≡ []) × (merged one.new other.new ≡ []))
-        (λ next. (merged one.old other.old ≡ next.0.now.entry ∷
-        (followers_of next.0.now.entry 1 next.1.now ++ merged one.new other.new)) × (length next.1.now ≤ u32.MAX)) }
+        (λ next. (merged one.old other.old ≡ entry_of next.0 ∷
+        (followers_of (entry_of next.0) 1 next.1.now ++ merged one.new other.new)) × (length next.1.now ≤ u32.MAX)) }
 {
     if is_next_in_other(one.number(), other.number()) {
         other.next()

@@ -15,6 +15,7 @@ mod joins;
 mod kept;
 mod leaders;
 mod lists;
+mod marks;
 mod packed;
 mod past;
 mod sides;

@@ -1,11 +1,11 @@
-// An entry as a list keeps it. Whether a number is cited takes a byte beside the caller, so that an entry and what a
-// leader has beside it fit in 64 bytes.
+// An entry as a list keeps it, in 44 bytes: of its number and of the one that it cites the low halves alone, and
+// whether a number is cited in a byte beside the caller.
 
-ghost use Rattle.std.specs.Prelude.{◌≡◌, Some, None, if◌then◌else◌};
+ghost use Rattle.std.specs.Prelude.{◌≡◌, ◌≢◌, ◌+◌, ◌*◌, ◌^◌, Some, None, if◌then◌else◌, false};
 ghost use Rattle.joint_machine.specs.declared.events.Entry.{Entry};
+ghost use Rattle.joint_model.specs.Packed.{entry_high, entry_in, whole_of};
 
 use joint_machine::{Entry, Made, Op, Reply, Thread};
-use std::marker::Model;
 
 /// An entry that is read part by part: one that a list keeps, or one by itself.
 pub trait EntryParts {
@@ -37,37 +37,25 @@ pub trait EntryParts {
         ensures { result ≡ (entry self.now).made.cites };
 }
 
-/// An entry in fewer bytes, as a list keeps it.
+/// An entry in fewer bytes, as a list keeps it. Of its number and of the one that it cites it has the low halves: where
+/// one of the high ones isn't zero, its list keeps both elsewhere.
 #[derive(Drop)]
 pub struct PackedEntry {
-    number: u64,
-    cited: u64,
+    number: u32,
+    cited: u32,
     index: u32,
     op: Op,
     reply: Reply,
     caller: Thread,
     cites: bool,
+    // whether the list has a mark for it
+    pub(crate) marked: bool,
 }
 
-const _: () = prove!(size_of::<PackedEntry>() <= 56);
+const _: () = prove!(size_of::<PackedEntry>() <= 44);
 
-impl Model for PackedEntry {
-    ghost use Rattle.std.specs.Prelude.{Some, None, if◌then◌else◌};
-    ghost use Rattle.joint_machine.specs.declared.events.Entry.{Entry};
-
-    ghost Value = { Entry };
-
-    ghost view = { λ p. record {
-      number = p.number;
-      made = record {
-        caller = p.caller;
-        index = p.index;
-        op = p.op;
-        reply = p.reply;
-        cites = if p.cites then Some p.cited else None;
-      };
-    } };
-}
+// What a half of a number is below.
+const HALF: u64 = 4_294_967_296;
 
 // Whether a number is cited, and which; 0 where none is.
 #[inline(always)]
@@ -88,49 +76,96 @@ fn together(cites: bool, cited: u64) -> Option<u64>
     if cites { Some(cited) } else { None }
 }
 
+// The low half of a number, and the high one.
+#[inline(always)]
+fn halves(number: u64) -> (u32, u32)
+    ensures { whole_of result.0 result.1 ≡ number }
+{
+    ((number % HALF) as u32, (number / HALF) as u32)
+}
+
+// The number with these halves.
+#[inline(always)]
+pub(crate) fn whole(low: u32, high: u32) -> u64
+    ensures { result ≡ whole_of low high }
+{
+    low as u64 + high as u64 * HALF
+}
+
 impl PackedEntry {
-    /// The entry in fewer bytes.
+    /// The entry in fewer bytes, and the high halves of its number and of the one that it cites. It is marked where one
+    /// of them isn't zero.
     #[inline(always)]
-    pub(crate) fn pack(entry: Entry) -> PackedEntry
-        ensures { result ≡ entry }
+    pub(crate) fn pack(entry: Entry) -> (PackedEntry, u32, u32)
+        ensures entry { entry_high result.0 result.1 result.2 ≡ entry }
+        ensures marked { result.0.marked ≡ false → (result.1 ≡ 0) × (result.2 ≡ 0) }
     {
         let made = entry.made;
-        let (cites, cited) = apart(made.cites);
-        PackedEntry {
-            number: entry.number,
+        let (cites, whole_cited) = apart(made.cites);
+        let (number, number_high) = halves(entry.number);
+        let (cited, cited_high) = halves(whole_cited);
+        let packed = PackedEntry {
+            number,
             cited,
             index: made.index,
             op: made.op,
             reply: made.reply,
             caller: made.caller,
             cites,
-        }
+            marked: number_high != 0 || cited_high != 0,
+        };
+        (packed, number_high, cited_high)
     }
 
-    /// The entry.
+    /// The entry whose high halves are zero.
     #[inline(always)]
     pub fn unpack(&self) -> Entry
-        ensures { result ≡ self.now }
+        ensures { result ≡ entry_in self.now }
     {
         Entry {
-            number: self.number,
+            number: self.number as u64,
             made: Made {
                 caller: self.caller,
                 index: self.index,
                 op: self.op,
                 reply: self.reply,
-                cites: together(self.cites, self.cited),
+                cites: together(self.cites, self.cited as u64),
             },
         }
+    }
+
+    /// The entry with these high halves of its number and of the one that it cites.
+    #[inline(always)]
+    pub(crate) fn unpack_high(&self, number_high: u32, cited_high: u32) -> Entry
+        ensures { result ≡ entry_high self.now number_high cited_high }
+    {
+        Entry {
+            number: whole(self.number, number_high),
+            made: Made {
+                caller: self.caller,
+                index: self.index,
+                op: self.op,
+                reply: self.reply,
+                cites: together(self.cites, whole(self.cited, cited_high)),
+            },
+        }
+    }
+
+    /// The number with this high half.
+    #[inline(always)]
+    pub(crate) fn number_high(&self, number_high: u32) -> u64
+        ensures { result ≡ whole_of self.now.number number_high }
+    {
+        whole(self.number, number_high)
     }
 }
 
 impl EntryParts for PackedEntry {
-    ghost entry = { λ e. e };
+    ghost entry = { entry_in };
 
     #[inline(always)]
     fn number(&self) -> u64 {
-        self.number
+        self.number as u64
     }
 
     #[inline(always)]
@@ -155,7 +190,7 @@ impl EntryParts for PackedEntry {
 
     #[inline(always)]
     fn cites(&self) -> Option<u64> {
-        together(self.cites, self.cited)
+        together(self.cites, self.cited as u64)
     }
 }
 
