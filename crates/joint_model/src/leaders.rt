@@ -7,7 +7,7 @@ ghost use Rattle.joint_model.specs.Following.{follower_of, followers_of};
 ghost use Rattle.joint_model.specs.Leaders.{entry_of, led, spelled, AreFollowed, Starts};
 ghost use Rattle.joint_model.specs.Marks.{leaders_of};
 ghost use Rattle.joint_model.specs.Merged.{Ascends, IsNextInOther, first_number, merged, IsNumbered};
-ghost use Rattle.joint_model.specs.Packed.{entry_high};
+ghost use Rattle.joint_model.specs.Packed.{entry_high, entry_in};
 
 use crate::marks::{Leader, Leaders, Mark};
 use crate::packed::{EntryParts, PackedEntry};
@@ -248,6 +248,19 @@ impl<'a> Rest<'a> {
         }
     }
 
+    // Takes the next leader where it has no mark; else None, and nothing changes.
+    #[inline(always)]
+    fn plain(&mut self) -> Option<&'a PackedEntry>
+        ensures { MatchOption result (self.new ≡ self.old) (λ p. self.old ≡ entry_in p.now ∷ self.new) }
+    {
+        let (entry, entries) = self.entries.split_first()?;
+        if entry.marked {
+            return None;
+        }
+        self.entries = entries;
+        Some(entry)
+    }
+
     // Takes the next leader, with the handles of its followers; None where none is left.
     #[inline(always)]
     pub(crate) fn next(&mut self) -> Option<(Step<'a>, &'a [HNum])>
@@ -278,6 +291,20 @@ pub(crate) fn is_next_in_other(one: Option<u64>, other: Option<u64>) -> bool
     match (one, other) {
         (Some(x), Some(y)) => y < x,
         (x, _) => x.is_none(),
+    }
+}
+
+// Takes the next leader of both lists where it has no mark, as most have none; else None, and nothing changes.
+#[inline(always)]
+pub(crate) fn next_plain<'a>(one: &mut Rest<'a>, other: &mut Rest<'a>) -> Option<&'a PackedEntry>
+    requires { IsNumbered (merged one.old other.old) }
+    ensures { MatchOption result ((one.new ≡ one.old) × (other.new ≡ other.old))
+        (λ p. merged one.old other.old ≡ entry_in p.now ∷ merged one.new other.new) }
+{
+    if is_next_in_other(one.number(), other.number()) {
+        other.plain()
+    } else {
+        one.plain()
     }
 }
 
