@@ -64,6 +64,7 @@ impl<'a> Draw for SeatDrawing<'a> {
           (kept d.seat.now.view e.made m freed e.number) × (d'.first ≡ Some (unwrap_or d.first e.number));
     } };
 
+    #[inline(always)]
     fn draw(&mut self, made: &Made, target: Option<MNum>, freed: &[MNum]) -> u64 {
         let number = append_paid(self.order, self.seat, self.role, made, target, freed);
         self.first = Some(self.first.unwrap_or(number));
