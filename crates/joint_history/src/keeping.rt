@@ -69,16 +69,22 @@ impl<T: Drop> Keep<T> for RefCell<T> {
     // A thread that has the cell alone, and the value not in hand, finds it free at once.
     #[inline(always)]
     fn hold<'a, R: Wait>(&'a self, rt: &R) -> InHand<'a, T> {
-        if let Ok(inside) = self.try_borrow_mut() {
-            return InHand::Borrowed(inside);
+        match self.try_borrow_mut() {
+            Ok(inside) => InHand::Borrowed(inside),
+            Err(_) => InHand::Borrowed(wait_for(self, rt)),
         }
-        for _ in rt.forever() {
-            if let Ok(inside) = self.try_borrow_mut() {
-                return InHand::Borrowed(inside);
-            }
-        }
-        unreachable!()
     }
+}
+
+// What is in a cell, once nobody has it in hand. It is a call, since a thread that has the cell alone never comes here.
+#[inline(never)]
+fn wait_for<'a, T, R: Wait>(cell: &'a RefCell<T>, rt: &R) -> RefMut<'a, T> {
+    for _ in rt.forever() {
+        if let Ok(inside) = cell.try_borrow_mut() {
+            return inside;
+        }
+    }
+    unreachable!()
 }
 
 /// How both sides of a run are kept.
