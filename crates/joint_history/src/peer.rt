@@ -88,12 +88,10 @@ impl<'a> Step for PeerEvent<'a> {
         seat: &mut Seat,
     ) -> Result<(u64, Reply), AllocError> {
         if let Some(n) = slice_count(self.op) {
-            let mut drawing = seat_drawing!(order, seat, Role::Peer);
-            return slice_by(side, &mut drawing, self.caller, self.index, n);
+            return slice_by(side, order, seat, self.caller, self.index, n);
         }
         if is_mark(self.op) {
-            let mut drawing = seat_drawing!(order, seat, Role::Peer);
-            return mark_by(side, &mut drawing, self.caller, self.index, self.op);
+            return mark_by(side, order, seat, self.caller, self.index, self.op);
         }
         draw_step(
             side,

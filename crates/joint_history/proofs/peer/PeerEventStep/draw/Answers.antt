@@ -30,7 +30,7 @@ pub returns-in-Some-clause-drew : goal.returns-in-Some-clause-drew
 returns-in-Some-clause-drew c =
     let is : c.args.self.op.now ≡ op.Line (act.Slice c.in-Some.n) = slice_is c.args.self.op.now c.in-Some.n (sym c.slice_count.ensures ∙ c.in-Some.is) in
     let none : c.args.self.cites ≡ None = subst (λ (q : Op). AllowsCall c.args.side.now.state c.args.self.caller q c.args.self.cites) is c.requires.asks.1 in
-    let d : IfOk c.slice_by.result (λ r. DrawsEvent c.args.order.now c.args.seat.now c.slice_by.new.drawing.seat.now (seen c.args.side.now)
+    let d : IfOk c.slice_by.result (λ r. DrawsEvent c.args.order.now c.args.seat.now c.slice_by.new.seat (seen c.args.side.now)
     (seen c.slice_by.new.side) (numbered r.0 (made_by c.args.self.caller c.args.self.index c.args.self.op.now r.1 c.args.self.cites))) = rw (is, none) c.slice_by.ensures.drew in
     let free : IsRelease c.args.self.op.now → IsOk c.slice_by.result = λ r. absurd (subst IsRelease is r) in
     search rules
@@ -44,7 +44,7 @@ mark_by-requires-clause-mark c = c.if-is_mark.ensures
 pub returns-then-is_mark-clause-drew : goal.returns-then-is_mark-clause-drew
 returns-then-is_mark-clause-drew c =
     let none : c.args.self.cites ≡ None = mark_bare c.args.side.now.state c.args.self.caller c.args.self.op.now c.args.self.cites c.if-is_mark.ensures c.requires.asks.1 in
-    let d : IfOk c.mark_by.result (λ r. DrawsEvent c.args.order.now c.args.seat.now c.mark_by.new.drawing.seat.now (seen c.args.side.now)
+    let d : IfOk c.mark_by.result (λ r. DrawsEvent c.args.order.now c.args.seat.now c.mark_by.new.seat (seen c.args.side.now)
     (seen c.mark_by.new.side) (numbered r.0 (made_by c.args.self.caller c.args.self.index c.args.self.op.now r.1 c.args.self.cites))) = rw none c.mark_by.ensures.drew in
     let free : IsRelease c.args.self.op.now → IsOk c.mark_by.result = λ r. absurd (no_release c.args.self.op.now c.if-is_mark.ensures r) in
     search rules
