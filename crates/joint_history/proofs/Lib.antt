@@ -42,3 +42,4 @@ pub mod SeatsKnow
 pub mod Crosses
 pub mod Fitting
 pub mod EventSteps
+pub mod OneStep

@@ -80,6 +80,47 @@ impl<'a> Step for ManagedEvent<'a> {
     }
 }
 
+/// A line of a managed thread that is one event and neither a read, a `weak` nor a `take`. It answers its entry's number
+/// and the reply; `AllocError` where there is no memory, and no entry is made then.
+#[derive(Drop)]
+pub(crate) struct ManagedLine<'a> {
+    pub(crate) caller: Thread,
+    pub(crate) index: u32,
+    pub(crate) act: &'a Act,
+}
+
+impl<'a> Step for ManagedLine<'a> {
+    type On = ManagedSide;
+
+    type Out = Result<(u64, Reply), AllocError>;
+
+    ghost asks = { λ t order seat s. IsManagedStep t.caller (op.Line t.act.now) × IsFresh s.state (op.Line t.act.now)
+        × CitesRightly (op.Line t.act.now) None × TakesManaged s.threads t.caller
+        × MayAppend order seat 0 t.caller (op.Line t.act.now) None × (line_known seat.view 0 ≡ s.entries) };
+
+    ghost drew = { λ t order seat seat' s s' result.
+        DrewManaged t.caller t.index (op.Line t.act.now) None nothing order seat seat' s s' result };
+
+    ghost makes = { λ t mine mine' result. MakesEvent t.caller t.index (op.Line t.act.now) None mine mine' result };
+
+    #[inline(always)]
+    fn draw(
+        self,
+        side: &mut ManagedSide,
+        order: &Order,
+        seat: &mut Seat,
+    ) -> Result<(u64, Reply), AllocError> {
+        let op = Op::Line(*self.act);
+        let event = ManagedEvent {
+            caller: self.caller,
+            index: self.index,
+            op: &op,
+            cites: None,
+        };
+        event.draw(side, order, seat)
+    }
+}
+
 /// `weak K V` of a managed thread: where it sets the cell, the cell's word is stored by the seat. It answers its
 /// entry's number and the reply; `AllocError` where there is no memory, and no entry is made then.
 #[derive(Drop)]

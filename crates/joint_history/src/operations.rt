@@ -2,12 +2,13 @@
 // first cites the one before it. No two locks are held together. A caller's seat is the note between them: after an
 // event it knows the entry, and hands it to the other side's seat with its pass.
 
-ghost use Rattle.std.specs.Prelude.{◌≡◌, ◌≤◌, [], IfOk, IsOk, OnErr, false};
+ghost use Rattle.std.specs.Prelude.{◌≡◌, ◌≤◌, [], None, IfOk, IsOk, OnErr, false, true};
+ghost use Rattle.joint_machine.specs.declared.events.Reply.{Reply};
 ghost use Rattle.joint_machine.specs.declared.lines.Act.{Act};
 ghost use Rattle.joint_machine.specs.Lines.{IsLine, IsManagedThread, IsPeerThread, is_peer_event};
 ghost use Rattle.order_table.specs.Allowed.{Settled};
 ghost use Rattle.peer_heap.specs.Steps.{IsRelease};
-ghost use Rattle.joint_history.specs.Callers.{HoldsPass, IsOfRun, KeepsReads, last_index, own};
+ghost use Rattle.joint_history.specs.Callers.{HoldsPass, IsOfRun, KeepsReads, ReadsStay, last_index, own};
 ghost use Rattle.joint_history.specs.Collecting.{Collects};
 ghost use Rattle.joint_history.specs.Locked.{MayMake, Makes, MakesNone};
 ghost use Rattle.joint_history.specs.Operations.{StopsWithoutMemory, IsMadeByEvents, IsOwnThread, IsCallBy};
@@ -17,8 +18,8 @@ ghost use Rattle.joint_history.specs.Operations.{call_of, entry_by, first_of, se
 use crate::callers::{Caller, Receipt};
 use crate::collects::Collecting;
 use crate::keeping::{Keep, Keeps};
-use crate::managed::{CellSetting, ManagedEvent, Taking};
-use crate::peer::PeerEvent;
+use crate::managed::{CellSetting, ManagedEvent, ManagedLine, Taking};
+use crate::peer::{PeerEvent, PeerLine};
 use crate::shared::Shared;
 use joint_model::{Act, Cell, Entries, Op, Reply, Thread, Var};
 use order_table::{OrderName, Seat};
@@ -151,6 +152,30 @@ fn call_of(op: &Op) -> ManagedCall
             _ => ManagedCall::Step,
         },
         _ => ManagedCall::Step,
+    }
+}
+
+// Whether an operation is one step of its thread's own side, as most are.
+fn is_step(act: &Act) -> bool
+    ensures first { result ≡ true → first_of act.now ≡ Op.Line act.now }
+    ensures only { result ≡ true → (reply : Reply) → second_of act.now reply ≡ None }
+    ensures call { result ≡ true → call_of (Op.Line act.now) ≡ ManagedCall.Step }
+{
+    match *act {
+        Act::New { .. }
+        | Act::NewPeer { .. }
+        | Act::Copy { .. }
+        | Act::Set { .. }
+        | Act::Get { .. }
+        | Act::Drop { .. }
+        | Act::Load { .. }
+        | Act::Store { .. }
+        | Act::Handle { .. }
+        | Act::Global { .. }
+        | Act::WGlobal { .. }
+        | Act::UnGlobal { .. }
+        | Act::WRead { .. } => true,
+        _ => false,
     }
 }
 
@@ -290,9 +315,96 @@ impl<N: OrderName, K: Keeps<N>> Shared<N, K> {
         self.managed_event(rt, mine, reads, t, index, op, cites)
     }
 
+    // Makes a step of the thread's own side under that side's lock, and answers its entry's number and the reply.
+    #[inline(always)]
+    fn own_step(
+        &self,
+        rt: &impl Wait,
+        mine: &mut Seat,
+        t: Thread,
+        index: u32,
+        act: &Act,
+    ) -> Result<(u64, Reply), AllocError>
+        requires order { mine.old.order ≡ N.order }
+        requires settled { Settled mine.old.view }
+        requires pass { IsOwnThread t × HoldsPass t mine.old.view }
+        requires run { IsOfRun N.managed N.peers t }
+        requires event { IsSideEvent t (Op.Line act.now) }
+        requires call { call_of (Op.Line act.now) ≡ ManagedCall.Step }
+        requires may { MayMake t mine.old.view index (Op.Line act.now) None }
+        ensures order { mine.new.order ≡ N.order }
+        ensures settled { Settled mine.new.view }
+        ensures pass { HoldsPass t mine.new.view }
+        ensures reads { ReadsStay t mine.old.view mine.new.view }
+        ensures ok { IfOk result (λ r. Makes t mine.old.view mine.new.view
+            (entry_by t index r.0 (Op.Line act.now) r.1 None)) }
+        ensures err { OnErr result (MakesNone t mine.old.view mine.new.view) }
+    {
+        match t {
+            Thread::P(_) => {
+                let step = PeerLine {
+                    caller: t,
+                    index,
+                    act,
+                };
+                self.peers.hold(rt).value().make(&self.order, mine, t, step)
+            }
+            _ => {
+                let step = ManagedLine {
+                    caller: t,
+                    index,
+                    act,
+                };
+                self.managed
+                    .hold(rt)
+                    .value()
+                    .make(&self.order, mine, t, step)
+            }
+        }
+    }
+
     // Runs an operation with the thread's seat, each event in a hold of its own side's lock.
     #[inline(always)]
     fn run(
+        &self,
+        rt: &impl Wait,
+        mine: &mut Seat,
+        reads: &mut Entries,
+        t: Thread,
+        index: u32,
+        act: &Act,
+    ) -> Result<Receipt, AllocError>
+        requires order { mine.old.order ≡ N.order }
+        requires settled { Settled mine.old.view }
+        requires pass { IsOwnThread t × HoldsPass t mine.old.view }
+        requires run { IsOfRun N.managed N.peers t }
+        requires begins { MayBegin t mine.old.view index }
+        requires act { IsMadeByEvents t act.now }
+        requires reads { KeepsReads t mine.old.view reads.old.entries }
+        ensures order { mine.new.order ≡ N.order }
+        ensures settled { Settled mine.new.view }
+        ensures pass { HoldsPass t mine.new.view }
+        ensures begins { MayBegin t mine.new.view index }
+        ensures reads { KeepsReads t mine.new.view reads.new.entries }
+        ensures ok { IfOk result (λ r. Runs t mine.old.view mine.new.view index act.now r) }
+        ensures exact { IfOk result (λ r. ReadsExactly t mine.old.view mine.new.view act.now r.reply) }
+        ensures err { OnErr result (StopsWithoutMemory t mine.old.view mine.new.view index act.now) }
+    {
+        if !is_step(act) {
+            return self.run_events(rt, mine, reads, t, index, act);
+        }
+        let (number, reply) = self.own_step(rt, mine, t, index, act)?;
+        Ok(Receipt {
+            first: number,
+            last: number,
+            reply,
+        })
+    }
+
+    // Runs whatever operation, one event after another. It is a call, so that a step of a thread's own side, which has
+    // nothing behind it, needs no place for what others have.
+    #[inline(never)]
+    fn run_events(
         &self,
         rt: &impl Wait,
         mine: &mut Seat,

@@ -1,6 +1,7 @@
 // Events of threads on the peer side under its lock.
 
 ghost use Rattle.std.specs.Prelude.{◌≡◌, IfOk, IsOk, None, OnErr};
+ghost use Rattle.joint_machine.specs.declared.events.Op.TheVariants as op;
 ghost use Rattle.joint_machine.specs.Draws.{numbered};
 ghost use Rattle.joint_machine.specs.PeerReplay.{PeerAllows};
 ghost use Rattle.joint_machine.specs.Sides.{TakesPeer, peer_rules};
@@ -16,7 +17,7 @@ ghost use Rattle.seat_calls.specs.Passing.{MayAppend};
 
 use crate::peer_marks::{is_mark, mark_by, slice_by, slice_count};
 use crate::steps::Step;
-use joint_model::{Op, Reply, Thread};
+use joint_model::{Act, Op, Reply, Thread};
 use order_table::{Order, Role, Seat};
 use peer_heap::PeerSide;
 use seat_calls::seat_drawing;
@@ -102,5 +103,49 @@ impl<'a> Step for PeerEvent<'a> {
             self.op,
             self.cites,
         )
+    }
+}
+
+/// A line of a peer thread that is one event. It answers its entry's number and the reply; `AllocError` where there is
+/// no memory, and no entry is made then.
+#[derive(Drop)]
+pub(crate) struct PeerLine<'a> {
+    pub(crate) caller: Thread,
+    pub(crate) index: u32,
+    pub(crate) act: &'a Act,
+}
+
+impl<'a> Step for PeerLine<'a> {
+    type On = PeerSide;
+
+    type Out = Result<(u64, Reply), AllocError>;
+
+    ghost asks = { λ t order seat s. IsPeerCall t.caller (op.Line t.act.now)
+        × AllowsCall s.state t.caller (op.Line t.act.now) None × TakesPeer s.threads t.caller
+        × MayAppend order seat 1 t.caller (op.Line t.act.now) None × (line_known seat.view 1 ≡ s.entries) };
+
+    ghost drew = { λ t order seat seat' s s' result. (s'.threads ≡ s.threads) × (s'.reserve ≡ s.reserve)
+        × IfOk result (λ r. DrawsEvent order seat seat' (seen s) (seen s')
+        (numbered r.0 (made_by t.caller t.index (op.Line t.act.now) r.1 None)))
+        × OnErr result (StaysSeated seat seat' × (seen s' ≡ seen s)) × (IsRelease (op.Line t.act.now) → IsOk result) };
+
+    ghost makes = { λ t mine mine' result. MakesEvent t.caller t.index (op.Line t.act.now) None mine mine' result
+        × (IsRelease (op.Line t.act.now) → IsOk result) };
+
+    #[inline(always)]
+    fn draw(
+        self,
+        side: &mut PeerSide,
+        order: &Order,
+        seat: &mut Seat,
+    ) -> Result<(u64, Reply), AllocError> {
+        let op = Op::Line(*self.act);
+        let event = PeerEvent {
+            caller: self.caller,
+            index: self.index,
+            op: &op,
+            cites: None,
+        };
+        event.draw(side, order, seat)
     }
 }
