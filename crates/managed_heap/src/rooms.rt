@@ -78,8 +78,16 @@ pub(crate) fn give_back(room: &mut Option<SnapRoom>)
     ensures { room.new ≡ None }
 {
     if room.is_some() {
-        drop(room.take());
+        let_go(room);
     }
+}
+
+// Gives room back. It is a call, since room is seldom taken: what stands in line in each event needs no place for it.
+#[inline(never)]
+fn let_go(room: &mut Option<SnapRoom>)
+    ensures { room.new ≡ None }
+{
+    drop(room.take());
 }
 
 /// Takes room out that was taken before.
