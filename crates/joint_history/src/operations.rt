@@ -401,9 +401,9 @@ impl<N: OrderName, K: Keeps<N>> Shared<N, K> {
         })
     }
 
-    // Runs whatever operation, one event after another. It is a call, so that a step of a thread's own side, which has
-    // nothing behind it, needs no place for what others have.
-    #[inline(never)]
+    // Runs whatever operation, one event after another. It is a function of its own, so that a step of a thread's own
+    // side, which has nothing behind it, needs no place for what others have.
+    #[inline(always)]
     fn run_events(
         &self,
         rt: &impl Wait,
