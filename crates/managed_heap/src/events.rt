@@ -16,7 +16,9 @@ use joint_model::{Act, Op, Reply, Thread};
 use std::alloc::AllocError;
 
 impl ManagedRows {
-    // A line of a managed thread that is one event, but for `weak`, `take` and reads.
+    // A line of a managed thread that is one event, but for `weak`, `take` and reads. It stands in line, as a step does:
+    // a reply that a call leaves in memory is written in parts and read at once, which a processor does slowly.
+    #[inline(always)]
     fn line(&mut self, caller: Thread, act: &Act) -> Result<Reply, AllocError>
         requires thread { IsManagedThread caller }
         requires act { IsManagedAct act.now }
@@ -47,6 +49,7 @@ impl ManagedRows {
     }
 
     /// The event of a step. Answers `AllocError`, with the rows as before, where there is no memory.
+    #[inline(always)]
     pub(crate) fn step(&mut self, caller: Thread, op: &Op) -> Result<Reply, AllocError>
         requires step { IsManagedStep caller op.now }
         requires kept { RowsInvariant self.old }
