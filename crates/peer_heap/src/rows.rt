@@ -525,6 +525,7 @@ impl PeerRows {
     }
 
     // Makes the event of a peer thread's line.
+    #[inline(always)]
     fn line(
         &mut self,
         caller: Thread,
