@@ -19,8 +19,8 @@ pub(crate) const MOST: u32 = 4_294_967_295;
 /// and no entry is copied.
 pub(crate) const BLOCK: usize = 524_288;
 
-/// Entries in the order in which they were put, and room for more of them. An entry takes 44 bytes, and 20 more where it
-/// has followers or high numbers; or four: see [`Kept::push_handle`].
+/// Entries in the order in which they were put, and room for more of them. An entry takes 44 bytes, and 20 more where
+/// it has followers or high numbers; or four: see [`Kept::push_handle`].
 #[derive(Drop)]
 pub(crate) struct Kept {
     leaders: Leaders,
