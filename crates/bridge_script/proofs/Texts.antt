@@ -1,17 +1,13 @@
 -- A text falls into lines in one way: no line has a newline, so the first newline ends the first line, and
 -- what stands behind it is the text of the other lines. So two scripts with one text are the same, and a line
 -- that no script goes on with, behind the lines of a script, excludes every script with that text.
-use Rattle.std.proofs.Common.{Bool, true, subst, zero, suc, slice_get, slice_range, ◌-◌, ◌≡◌, ◌≢◌, ℕ, ◌+◌, ◌<◌, ◌≤◌, cond, List, [], ◌∷◌, ◌++◌, length, take, drop, get_or, sym, ◌∙◌, ap, refl, inl}
-use Rattle.std.proofs.Common.{inr, ◌⊎◌, arith, append_assoc, append-nil, length-append, length-drop}
+use Rattle.std.proofs.Common.{Bool, true, subst, zero, suc, slice_get, ◌-◌, ◌≡◌, ◌≢◌, ℕ, ◌+◌, ◌<◌, ◌≤◌, cond, List, [], ◌∷◌, ◌++◌, length, sym, ◌∙◌, ap, refl, inl}
+use Rattle.std.proofs.Common.{inr, ◌⊎◌, arith, append_assoc, append-nil, length-append}
 use Rattle.std.specs.List.{All}
-use Rattle.std.proofs.lemmas.List.{get_or-drop, drop-append-le, take-append-le, length-take-le}
-use Rattle.std.proofs.lemmas.Bool.{cases_lt}
-use Rattle.std.proofs.Math.ListN.{get_or-append}
-use Rattle.byte_streams.proofs.Bytes.{rest_of}
-use Rattle.text_words.proofs.Cuts.{cut_at, cut_once, free_before}
+use Rattle.text_words.proofs.Cuts.{cut_once}
 use Rattle.std.proofs.lemmas.List.Elements.{All-head, All-tail, All-take, All-get_or, All-push}
 use Rattle.std.proofs.lemmas.List.Sums.{sum_by-append, sum_by_push}
-use Rattle.std.proofs.Math.Seq.{take-add, take-append_seam, get_or-append_seam}
+use Rattle.std.proofs.Math.Seq.{take-append_seam, get_or-append_seam}
 use Rattle.joint_machine.specs.declared.names.PhaseWord.TheVariants as phase
 use Rattle.joint_machine.specs.declared.names.Thread.{Thread}
 use Rattle.joint_machine.specs.declared.names.Thread.TheVariants.{C}
@@ -24,7 +20,7 @@ use Rattle.bridge_script.specs.Words.{line_text, line_words}
 use Rattle.bridge_script.specs.Faults.{AskCycle, WordsHave, Has}
 use Rattle.bridge_script.specs.Scripts.{IsScriptLine, IsScript, IsText, IsFault, IsNoText, script_text_of, cycles_of, is_cycle, end_of}
 use Rattle.bridge_script.specs.Answers.{line_at}
-use Rattle.bridge_script.specs.Steps.{EndsLine, behind}
+use Rattle.bridge_script.specs.Steps.{behind}
 use Rattle.bridge_script.proofs.LineWords.{same_words, same_line, line_free, line_some, words_of_line}
 use Rattle.bridge_script.proofs.Fitting.{none_of_line}
 
@@ -149,50 +145,6 @@ one_script bytes s t a b = elim a.text [
     | inr f ↦ same_lines s t a.lawful.each b.lawful.each (sym e.1 ∙ f.1)
   ]
 ]
-
--- the line of a text from a place on ends at the first newline from there on
-pub ends_line : (bytes : List ℕ) (at n : ℕ) → at < length bytes → n ≤ length (take (length bytes - at) (drop at bytes))
-    → ((k : ℕ) → k < n → get_or (take (length bytes - at) (drop at bytes)) k 0 ≡ 10 → ⊥)
-    → (n < length (take (length bytes - at) (drop at bytes)) → get_or (take (length bytes - at) (drop at bytes)) n 0 ≡ 10) → EndsLine bytes at (at + n)
-ends_line bytes at n l w before found =
-    let e = rest_of at bytes in
-    let w' = rw e at w in
-    let inner : at + n ≤ length bytes = omega (arith, w', length-drop at bytes) in
-    let cut : at + n - at ≡ n = omega arith in
-    let newline : get_or (bytes ++ 10 ∷ []) (at + n) 0 ≡ 10 = elim (cases_lt n (length (drop at bytes))) [
-      | inl h ↦ (let f = rw e at found in get_or-append bytes (10 ∷ []) 0 (at + n) (omega (arith, length-drop at bytes)) ∙ (sym (get_or-drop at bytes n 0) ∙ f h))
-      | inr h ↦ (let last : length bytes ≡ at + n = omega (arith, length-drop at bytes) in rw (← last) (get_or-append_seam bytes 10 [] 0))
-    ] in
-    let behind : drop at (bytes ++ 10 ∷ []) ≡ drop at bytes ++ 10 ∷ [] = drop-append-le at bytes (10 ∷ []) (omega arith) in
-    let line : take n (drop at (bytes ++ 10 ∷ [])) ≡ take n (drop at bytes) = ap (take n) behind ∙ take-append-le n (drop at bytes) (10 ∷ []) w' in
-    let front : take (at + n) (bytes ++ 10 ∷ []) ≡ take at (bytes ++ 10 ∷ []) ++ take n (drop at bytes) = take-add at n (bytes ++ 10 ∷ []) ∙ ap (λ t. take at (bytes ++ 10 ∷ []) ++ t) line in
-    let split = cut_at 10 (at + n) (bytes ++ 10 ∷ []) (omega (arith, length-append bytes (10 ∷ []))) newline in
-    record {
-      from = omega arith;
-      within = inner;
-      whole = rw cut (free_before 10 n (drop at bytes) w' (rw e at before));
-      stands = rw cut (split ∙ (ap (λ t. t ++ 10 ∷ drop (at + n + 1) (bytes ++ 10 ∷ [])) front
-          ∙ append_assoc (take at (bytes ++ 10 ∷ [])) (take n (drop at bytes)) (10 ∷ drop (at + n + 1) (bytes ++ 10 ∷ []))));
-    }
-
-take_front : (n : ℕ) (front more : List ℕ) → length front ≡ n → take n (front ++ more) ≡ front
-take_front n front more e = rw (← e) (take-append_seam front more)
-
--- what was read, up to the end of the line that was read next
-pub reads_on : (bytes : List ℕ) (at end : ℕ) → EndsLine bytes at end → at < length bytes → take (end + 1) (bytes ++ 10 ∷ []) ≡ take at (bytes ++ 10 ∷ []) ++ (slice_range bytes at end ++ 10 ∷ [])
-reads_on bytes at end e l =
-    let a = take at (bytes ++ 10 ∷ []) in
-    let line = slice_range bytes at end in
-    let rest = drop (end + 1) (bytes ++ 10 ∷ []) in
-    let la : length a ≡ at = length-take-le at (bytes ++ 10 ∷ []) (omega (arith, length-append bytes (10 ∷ []))) in
-    let ll : length line ≡ end - at = length-take-le (end - at) (drop at bytes) (omega (arith, e.from, e.within, length-drop at bytes)) in
-    let size : length (a ++ (line ++ 10 ∷ [])) ≡ end + 1 = omega (arith, length-append a (line ++ 10 ∷ []), length-append line (10 ∷ []), la, ll, e.from) in
-    let whole : bytes ++ 10 ∷ [] ≡ (a ++ (line ++ 10 ∷ [])) ++ rest = e.stands ∙ (ap (λ t. a ++ t) (sym (append_assoc line (10 ∷ []) rest)) ∙ sym (append_assoc a (line ++ 10 ∷ []) rest)) in
-    ap (take (end + 1)) whole ∙ take_front (end + 1) (a ++ (line ++ 10 ∷ [])) rest size
-
--- the length of what was read so far
-pub length_so_far : (bytes : List ℕ) (at : ℕ) → at ≤ length bytes → length (take at (bytes ++ 10 ∷ [])) ≡ at
-length_so_far bytes at l = length-take-le at (bytes ++ 10 ∷ []) (omega (arith, length-append bytes (10 ∷ [])))
 
 -- lines count from 1
 pub line_at_from : (script : List (Thread × Act)) (i : ℕ) → 0 < i → line_at script i ≡ slice_get script (i - 1)

@@ -9,9 +9,10 @@
 // In the order in which a program calls it:
 //
 // 1. `read_script` reads a source to its end, or to one byte past the limit of a script, and answers the script
-//    whose text it read. Where the bytes are the text of no script it names the first faulty line and its first
-//    cause, and nothing else is refused. `parse` does the same with bytes that are at hand, `script_text`
-//    prints a script back, and `write_refusal` writes the line that names a fault.
+//    whose text it read. It lets the bytes go as their lines are read: only those of a line that isn't whole are
+//    held. Where the bytes are the text of no script it names the first faulty line and its first cause, and nothing
+//    else is refused. `parse` does the same with bytes that are at hand, `script_text` prints a script back, and
+//    `write_refusal` writes the line that names a fault.
 // 2. `Script::line` gives the lines, counted from 1, to whoever runs them: each is a thread and an `Act` of
 //    `joint_model`, and lawful there. A worker calls `Turnstile::pass` before each.
 // 3. `take_act`, `var` and their like read such words back, from the `Words` of a line (`text_words`).
@@ -33,6 +34,7 @@
 #![tactic(auto)]
 
 mod acts;
+mod drafts;
 mod faults;
 mod grammar;
 mod laws;

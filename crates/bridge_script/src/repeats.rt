@@ -1,9 +1,9 @@
 // Lines that were read, by their texts.
 //
-// A script mostly has few different lines, some tens. So the lines that were read last are kept, each where its text's
-// mark says, and a line whose text is seen there is the same line: it isn't read once more.
+// A script mostly has few different lines, some tens. So the lines that were read last are kept with their texts, each
+// where its text's mark says, and a line whose text is seen there is the same line: it isn't read once more.
 
-ghost use Rattle.std.specs.Prelude.{◌≡◌, ◌+◌, ◌≤◌, ◌<◌, length, take, drop, IfSome};
+ghost use Rattle.std.specs.Prelude.{◌≡◌, ◌<◌, IfSome};
 ghost use Rattle.bridge_script.specs.Scripts.{IsScriptLine};
 ghost use Rattle.bridge_script.specs.Words.{line_text};
 ghost use Rattle.bridge_script.specs.Steps.{ReadsLine};
@@ -17,60 +17,52 @@ use text_words::Stretch;
 // How many lines are kept: one for each mark.
 const MARKS: usize = 512;
 
-// A line, and the place and the length of a text that it has.
+// The most bytes of a line that is kept: no line of a script with short numbers has more.
+const LONGEST: usize = 40;
+
+// A line, and its text in the front of these bytes.
 #[derive(Clone, Copy)]
 struct Kept {
-    at: usize,
+    text: [u8; 40],
     len: usize,
     line: (Thread, Act),
 }
 
-/// The lines of a text that were read last.
+/// The lines that were read last.
 #[derive(Drop)]
-pub struct Repeats<'a> {
-    bytes: &'a [u8],
+pub struct Repeats {
     kept: [Option<Kept>; 512],
 }
 
-impl<'a> Model for Repeats<'a> {
-    ghost use Rattle.std.specs.Prelude.{ℕ, List, All};
+impl Model for Repeats {
+    ghost use Rattle.std.specs.Prelude.{All};
     ghost use Rattle.bridge_script.specs.Repeats.{HasItsText};
 
-    ghost Value = { List ℕ };
+    ghost Value = { Unit {0} };
 
-    ghost view = { λ r. r.bytes.now };
+    ghost view = { λ _. tt };
 
-    ghost invariant = { λ r. All (HasItsText r.bytes.now) r.kept };
+    ghost invariant = { λ r. All HasItsText r.kept };
 }
 
-impl<'a> Repeats<'a> {
-    /// None of the lines of a text.
-    pub fn of(bytes: &'a [u8]) -> Repeats<'a>
-        ensures { result ≡ bytes.now }
-    {
+impl Repeats {
+    /// None.
+    pub fn new() -> Repeats {
         Repeats {
-            bytes,
             kept: [None; MARKS],
         }
     }
 
-    /// Reads the line whose text stands at a place and has that length.
-    pub fn read(&mut self, at: usize, len: usize) -> Result<(Thread, Act), Cause>
-        requires { at + len ≤ length self.old }
-        ensures text { self.new ≡ self.old }
-        ensures read { ReadsLine (take len (drop at self.old)) result }
+    /// Reads the line that has this text.
+    #[inline(always)]
+    pub fn read(&mut self, text: Stretch) -> Result<(Thread, Act), Cause>
+        ensures { ReadsLine text.entry result }
     {
-        let text = Stretch::of(&self.bytes[at..], len);
         let mark = text.mark();
         if let Some(line) = self.line_at(mark, &text) {
             return Ok(line);
         }
-        let line = match read_line(text) {
-            Ok(line) => line,
-            Err(cause) => return Err(cause),
-        };
-        self.kept[mark] = Some(Kept { at, len, line });
-        Ok(line)
+        self.read_new(mark, text)
     }
 
     // The line that is kept at a mark, where it is seen to have this text.
@@ -80,11 +72,34 @@ impl<'a> Repeats<'a> {
         ensures { IfSome result (λ line. IsScriptLine line × (line_text line ≡ text.now)) }
     {
         let kept = self.kept[mark]?;
-        let before = Stretch::of(&self.bytes[kept.at..], kept.len);
-        if text.is_seen_same(&before) {
+        if text.is_seen_same(&Stretch::of(&kept.text, kept.len)) {
             Some(kept.line)
         } else {
             None
         }
+    }
+
+    // Reads the line that has this text, and keeps it at the mark, if it isn't long.
+    #[inline(never)]
+    fn read_new(&mut self, mark: usize, text: Stretch) -> Result<(Thread, Act), Cause>
+        requires { mark < 512 }
+        ensures { ReadsLine text.entry result }
+    {
+        let len = text.len();
+        if len > LONGEST {
+            return read_line(text);
+        }
+        let mut bytes = [0; LONGEST];
+        bytes[..len].copy_from_slice(text.front(len));
+        let line = match read_line(text) {
+            Ok(line) => line,
+            Err(cause) => return Err(cause),
+        };
+        self.kept[mark] = Some(Kept {
+            text: bytes,
+            len,
+            line,
+        });
+        Ok(line)
     }
 }

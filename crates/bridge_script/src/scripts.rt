@@ -6,14 +6,13 @@ ghost use Rattle.joint_machine.specs.Lines.{IsLine};
 ghost use Rattle.bridge_script.specs.declared.faults.ScriptError.{ScriptError};
 ghost use Rattle.bridge_script.specs.Scripts.{IsScript, IsScriptLine, IsText, cycles_of, is_cycle};
 ghost use Rattle.bridge_script.specs.Answers.{IsRefusal, line_at};
-ghost use Rattle.bridge_script.specs.Steps.{GainsLine, ReadsLine, Stops, EndsLine};
+ghost use Rattle.bridge_script.specs.Steps.{GainsLine, ReadsLine, Stops};
 
+use crate::drafts::Draft;
 use crate::faults::{Cause, ScriptError, ScriptFault};
-use crate::repeats::Repeats;
 use joint_model::{Act, PhaseWord, Thread, list_with_room};
 use std::alloc::{AllocError, Global};
 use std::marker::Model;
-use text_words::first_place_far;
 
 /// The most bytes of a script.
 pub const MOST_BYTES: usize = 8_388_608;
@@ -83,7 +82,7 @@ impl Script {
 
     // The script of no lines. Room for all that a script may have is asked for at once, so that the list is never
     // copied as it grows; where there isn't so much memory it grows as it needs.
-    fn new(alloc: Global) -> Script
+    pub(crate) fn new(alloc: Global) -> Script
         ensures { result ≡ [] }
     {
         Script {
@@ -111,9 +110,16 @@ impl Script {
 
     // Puts the line last that was read of a text, of which `end` is the number of bytes up to its end. `Refused` where
     // that has a cause, with the first of them.
-    fn grow(&mut self, read: Result<(Thread, Act), Cause>, end: usize) -> Result<(), ScriptError>
+    #[inline(always)]
+    pub(crate) fn grow(
+        &mut self,
+        read: Result<(Thread, Act), Cause>,
+        end: usize,
+    ) -> Result<(), ScriptError>
         requires { IfOk read (λ line. IsScriptLine line) }
-        ensures { (text : List ℕ) → ReadsLine text read
+        ensures lawful { IsScript self.old }
+        ensures kept { IfErr result (λ error. self.new ≡ self.old) }
+        ensures read { (text : List ℕ) → ReadsLine text read
             → MatchResult result (λ _. GainsLine self.old self.new text end) (λ error. Stops self.old text end error) }
     {
         if end > MOST_BYTES {
@@ -139,7 +145,8 @@ impl Script {
 
     // The refusal of the next line.
     fn refusal(&self, cause: Cause) -> ScriptError
-        ensures { result ≡ ScriptError.Refused (record { line = length self.now + 1; cause = cause }) }
+        ensures fault { result ≡ ScriptError.Refused (record { line = length self.now + 1; cause = cause }) }
+        ensures lawful { IsScript self.now }
     {
         ScriptError::Refused(ScriptFault {
             line: self.len() + 1,
@@ -181,14 +188,6 @@ fn cycles_of(lines: &[(Thread, Act)]) -> usize
     cycles
 }
 
-// Where the line that begins at a place ends: the place of its newline, or the length where it has none.
-fn line_end(bytes: &[u8], at: usize) -> usize
-    requires { at < length bytes.now }
-    ensures { EndsLine bytes.now at result }
-{
-    at + first_place_far(&bytes[at..], b'\n')
-}
-
 /// The script that has these bytes as its text.
 ///
 /// A line ends with a newline, which the last line may lack if it has at least one byte. `OutOfMemory` where
@@ -198,14 +197,7 @@ pub fn parse(alloc: Global, bytes: &[u8]) -> Result<Script, ScriptError>
     ensures ok { IfOk result (λ script. IsText bytes.now script) }
     ensures err { IfErr result (λ error. IsRefusal bytes.now error) }
 {
-    let mut script = Script::new(alloc);
-    let mut repeats = Repeats::of(bytes);
-    let mut at = 0;
-    while at < bytes.len() {
-        let end = line_end(bytes, at);
-        let read = repeats.read(at, end - at);
-        script.grow(read, (end + 1).min(bytes.len()))?;
-        at = end + 1;
-    }
-    Ok(script)
+    let mut draft = Draft::new(alloc);
+    draft.take(bytes)?;
+    draft.finish()
 }
