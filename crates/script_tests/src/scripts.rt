@@ -222,6 +222,21 @@ fn a_source_is_read_to_one_byte_past_the_limit(rt: HostRuntime) -> Result<(), Fa
     Ok(())
 }
 
+// Three lines of 51 bytes together: a piece of 16 KiB ends within a line, the first three each at another place.
+const LINES: &[u8] = b"m1 bridge a bridge 1 user 0\nm1 set a 0 b\nm1 drop b\n";
+
+#[test]
+fn a_line_in_two_pieces_is_read_as_one(rt: HostRuntime) -> Result<(), Fail> {
+    let mut text = Vec::new(rt.alloc());
+    for _ in 0..1_000 {
+        text.extend_from_slice(LINES)?;
+    }
+    let mut source = PlainSource::new(text.as_slice().to_vec(rt.alloc())?);
+    let script = read_script(rt.alloc(), &mut source)?;
+    expect_text(&rt, script_text(rt.alloc(), &script)?.as_bytes(), &text);
+    Ok(())
+}
+
 #[test]
 fn a_source_that_fails_gives_no_script(rt: HostRuntime) -> Result<(), Fail> {
     for call in 1..4u32 {
