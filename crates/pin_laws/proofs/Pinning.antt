@@ -37,7 +37,8 @@ use Rattle.joint_laws.proofs.KeptPins.{entry-pins, read-pins}
 use Rattle.joint_laws.proofs.LinkedEntries.{Of, BothInvariants-entry, BothInvariants-opening}
 use Rattle.joint_laws.proofs.ReadingsGoneAfter.{entry-by, reading-after, reading-comes, reading-take}
 use Rattle.joint_laws.proofs.ReadsAside.{reading_is_lawful, reading_leads_to_same}
-use Rattle.pin_laws.specs.Pinned.{GivenObjectsLive, GivesAt, IsPinnedAt, LinkedPinsHold, NoTakeBetween, NoneFreesPinned, PinnedObjectsLive}
+use Rattle.pin_laws.specs.Pinned.{GivenObjectsLive, LinkedPinsHold, NoneFreesPinned, PinnedObjectsLive}
+use Rattle.pin_laws.specs.Pins.{GivesAt, IsPinnedAt, NoTakeBetween}
 
 abbrev pins_of : Linkage → List (Option ℕ)
 pins_of s = s.managed.managed.pins
@@ -176,16 +177,16 @@ module _ (noted : List Noted) (w : IsLawfulReading noted) where
     pin-since zero none =
         let e : suc i + 0 ≡ suc i = omega arith in
         ap (λ j. slot (pins_of (reading_at noted j)) t) e
-        ∙ (ap (λ s. slot (pins_of s) t) (reading-after noted opening_linkage i g.entry g.there)
-        ∙ pin-filled w.0 w.1 (reading_at noted i) g.entry t g.cell m (reading-comes w.0 w.1 noted opening_linkage i g.entry w.2 g.there) (nine i) g.caller g.reads g.gives)
+        ∙ (ap (λ s. slot (pins_of s) t) (reading-after noted opening_linkage i g.element g.there)
+        ∙ pin-filled w.0 w.1 (reading_at noted i) g.element t g.is.1.0 m (reading-comes w.0 w.1 noted opening_linkage i g.element w.2 g.there) (nine i) g.is.0 g.is.1.1 g.is.2)
     pin-since (suc more) none =
         let next : suc i + suc more ≡ suc (suc i + more) = omega arith in
-        let before = pin-since more (λ x l k. none x l (omega (arith, k))) in
+        let before = pin-since more (λ x v l k. none x v l (omega (arith, k))) in
         ap (λ j. slot (pins_of (reading_at noted j)) t) next
         ∙ ⊎_elim
         (λ c. ap (λ s. slot (pins_of s) t) (reading-after noted opening_linkage (suc i + more) c.0 c.2)
         ∙ pin-stays w.0 w.1 (reading_at noted (suc i + more)) c.0 t m (reading-comes w.0 w.1 noted opening_linkage (suc i + more) c.0 w.2 c.2) before
-        (λ v e f. none (suc i + more) (omega arith) (omega arith) (record { entry = c.0; there = c.2; caller = e; var = v; event = f })))
+        (λ v e f. none (suc i + more) v (omega arith) (omega arith) (record { element = c.0; there = c.2; is = (e, f) })))
         (λ c. ap (λ ns. slot (pins_of (replayed_reading opening_linkage ns)) t) (take_all (suc (suc i + more)) noted (let l = c.0 in omega (arith, l)) ∙ sym (take_all (suc i + more) noted c.0))
         ∙ before)
         (slice_get_cases noted (suc i + more)).1
@@ -195,26 +196,26 @@ module _ (noted : List Noted) (w : IsLawfulReading noted) where
         let same : suc i + (j - suc i) ≡ j = omega (arith, l) in
         let p : slot (pins_of (reading_at noted j)) t ≡ Some m = subst (λ z. slot (pins_of (reading_at noted z)) t ≡ Some m) same
         (pin-since (j - suc i) (subst (NoTakeBetween noted t i) (sym same) none)) in
-        record { pin = p; live = (kept j).roots m (inr (slot-Contains (pins_of (reading_at noted j)) t m p)) }
+        (p, (kept j).roots m (inr (slot-Contains (pins_of (reading_at noted j)) t m p)))
 
     -- an entry that is no read and no take leaves the object in the pin: what it frees isn't that
     after-it : (j : ℕ) (n : Noted) (o : Op) (told : Told) → i < j → NoTakeBetween noted t i j → slice_get noted j ≡ Some n
         → n.entry.made.op ≡ o → n.told ≡ told → is_read o ≡ false → ((v : Var) → o ≡ op.Line (act.Take v) → ⊥)
         → Contains (managed_after (reading_at noted j).managed (record n.entry.made { op = o }) told (is_peer_event n.entry.made.caller o)).managed.heap.freed m → ⊥
     after-it j n o told l none there e f is_none no_take c =
-        (pinned-at (suc j) (omega (arith, l)) still).live.kept (subst (λ (z : ManagedReplay). Contains z.managed.heap.freed m) (sym after) c)
+        (pinned-at (suc j) (omega (arith, l)) still).1.kept (subst (λ (z : ManagedReplay). Contains z.managed.heap.freed m) (sym after) c)
       where
         after : (reading_at noted (suc j)).managed ≡ managed_after (reading_at noted j).managed (record n.entry.made { op = o }) told (is_peer_event n.entry.made.caller o)
         after = ap (λ (z : Linkage). z.managed) (reading-after noted opening_linkage j n there ∙ entry-by (reading_at noted j) n false (ap is_read e ∙ is_none))
             ∙ (λ z. managed_after (reading_at noted j).managed (record n.entry.made { op = e z }) (f z) (is_peer_event n.entry.made.caller (e z)))
 
         still : NoTakeBetween noted t i (suc j)
-        still x k below x_takes = elim (cases_lt x j) [
-          | inl u ↦ none x k u x_takes
+        still x v k below x_takes = elim (cases_lt x j) [
+          | inl u ↦ none x v k u x_takes
           | inr u ↦ (
               let at : x ≡ j = omega (arith, u, below) in
-              let one = same_Some x_takes.entry n (sym x_takes.there ∙ (ap (λ z. slice_get noted z) at ∙ there)) in
-              no_take x_takes.var (sym e ∙ (ap (λ (z : Noted). z.entry.made.op) (sym one) ∙ x_takes.event)))
+              let one = same_Some x_takes.element n (sym x_takes.there ∙ (ap (λ z. slice_get noted z) at ∙ there)) in
+              no_take v (sym e ∙ (ap (λ (z : Noted). z.entry.made.op) (sym one) ∙ x_takes.is.1)))
         ]
 
 pub pinned_objects_live : PinnedObjectsLive
@@ -222,10 +223,10 @@ pinned_objects_live noted w i j t m g l none = pinned-at noted w i t m g j l non
 
 pub given_objects_live : GivenObjectsLive
 given_objects_live noted w i t m g =
-    let p = pinned-at noted w i t m g (suc i) (omega arith) (λ x l k takes. omega (arith, l, k)) in
-    let same = ap (λ (s : Linkage). s.managed.managed.heap) (reading-after noted opening_linkage i g.entry g.there
-    ∙ entry-by (reading_at noted i) g.entry true (is-read g.entry.entry.made.op g.cell g.reads)) in
-    subst (λ h. IsLive h m) same p.live
+    let p = pinned-at noted w i t m g (suc i) (omega arith) (λ x v l k takes. omega (arith, l, k)) in
+    let same = ap (λ (s : Linkage). s.managed.managed.heap) (reading-after noted opening_linkage i g.element g.there
+    ∙ entry-by (reading_at noted i) g.element true (is-read g.element.entry.made.op g.is.1.0 g.is.1.1)) in
+    subst (λ h. IsLive h m) same p.1
 
 abbrev frees_objects : Op → Bool
 frees_objects (op.Snap k) = true
@@ -234,8 +235,8 @@ frees_objects _ = false
 
 pub none_frees_pinned : NoneFreesPinned
 none_frees_pinned noted w i j t m k g l none (inl s) =
-    after-it noted w i t m g j s.entry (op.Snap record { 0 = k }) (snap_of s.freed s.candidates s.dead) l none s.there s.event s.told refl (λ v e. let f : true ≡ false = ap frees_objects e in cc)
-    (Contains-append_right (reading_at noted j).managed.managed.heap.freed s.freed m s.frees)
+    after-it noted w i t m g j s.element (op.Snap record { 0 = k }) (snap_of s.is.1 s.is.2 s.is.3) l none s.there s.is.0 s.is.4 refl (λ v e. let f : true ≡ false = ap frees_objects e in cc)
+    (Contains-append_right (reading_at noted j).managed.managed.heap.freed s.is.1 m s.is.5)
 none_frees_pinned noted w i j t m k g l none (inr s) =
     after-it noted w i t m g j s.element (op.Resolve record { 0 = k }) (resolution_of s.is.1 s.is.2) l none s.there s.is.0 s.is.3 refl (λ v e. let f : true ≡ false = ap frees_objects e in cc)
     (Contains-append_right (reading_at noted j).managed.managed.heap.freed s.is.2 m s.is.4)

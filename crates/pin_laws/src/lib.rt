@@ -4,7 +4,7 @@
 // A law is a function with an empty body, whose clauses are statements of `specs/`. So no value is made here, and
 // nothing runs. What is promised is said of every linked history, whatever threads and whatever schedule led to it.
 //
-// `specs/Pinned.antt` has the statements. Why it is so in a run, where no lock is held over a read, stands in
+// `specs/Pins.antt` says what is promised, `specs/Pinned.antt` of which lists. Why it is so in a run, where no lock is held over a read, stands in
 // docs/INVARIANTS.md.
 #![tactic(auto)]
 
