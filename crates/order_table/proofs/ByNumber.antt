@@ -36,7 +36,7 @@ use Rattle.order_table.proofs.Lines.{of_line_in, of_line_out, role_in, caller_in
 use Rattle.order_table.proofs.Held.{not_freed}
 
 -- the entry at a place has that number
-runs_at : (n : ℕ) (xs : List Item) (i : ℕ) (x : Item) → RunsFrom n xs → get_elem? xs i ≡ some x → IsItem (n + i) x
+pub runs_at : (n : ℕ) (xs : List Item) (i : ℕ) (x : Item) → RunsFrom n xs → get_elem? xs i ≡ some x → IsItem (n + i) x
 runs_at n [] i x r e = absurd (some-ne-none x (sym e))
 runs_at n (y ∷ xs) zero x r e = subst (IsItem (n + 0)) (some-injective y x e) record { number = r.0.number ∙ omega arith; caller = r.0.caller; stands = r.0.stands }
 runs_at n (y ∷ xs) (suc i) x r e = let t = runs_at (n + 1) xs i x r.1 e in record { number = t.number ∙ omega arith; caller = t.caller; stands = t.stands }
@@ -49,7 +49,7 @@ at_front k ks y s = by_place s.0 s.1
     by_place (suc j) e = inr (j, e)
 
 -- what stands in a line is an entry of the history, and the other way round
-stands_item : (l : ℕ) (xs : List Item) (y : KeptEntry) → Stands (of_line l xs) y → (i : ℕ) × (x : Item) × (get_elem? xs i ≡ some x) × (is_in l x ≡ true) × (x.kept ≡ y)
+pub stands_item : (l : ℕ) (xs : List Item) (y : KeptEntry) → Stands (of_line l xs) y → (i : ℕ) × (x : Item) × (get_elem? xs i ≡ some x) × (is_in l x ≡ true) × (x.kept ≡ y)
 stands_item l [] y s = absurd (some-ne-none y (sym s.1))
 stands_item l (x ∷ xs) y s = ⊎_elim
     (λ (e : is_in l x ≡ true). ⊎_elim
@@ -62,7 +62,7 @@ stands_item l (x ∷ xs) y s = ⊎_elim
     later : (i : ℕ) × (z : Item) × (get_elem? xs i ≡ some z) × (is_in l z ≡ true) × (z.kept ≡ y) → (i : ℕ) × (z : Item) × (get_elem? (x ∷ xs) i ≡ some z) × (is_in l z ≡ true) × (z.kept ≡ y)
     later t = (suc t.0, t.1, t.2, t.3, t.4)
 
-item_stands : (l : ℕ) (xs : List Item) (i : ℕ) (x : Item) → get_elem? xs i ≡ some x → is_in l x ≡ true → Stands (of_line l xs) x.kept
+pub item_stands : (l : ℕ) (xs : List Item) (i : ℕ) (x : Item) → get_elem? xs i ≡ some x → is_in l x ≡ true → Stands (of_line l xs) x.kept
 item_stands l [] i x e b = absurd (some-ne-none x (sym e))
 item_stands l (y ∷ xs) zero x e b = let same = some-injective y x e in
     subst (λ ks. Stands ks x.kept) (sym (if_true (is_in l y) (y.kept ∷ of_line l xs) (of_line l xs) (ap (is_in l) same ∙ b))) (0, ap (λ (z : Item). some z.kept) same)
@@ -73,7 +73,7 @@ item_stands l (y ∷ xs) (suc i) x e b = either_way (is_in l y) (item_stands l x
     either_way false s = s
 
 -- the first entries
-in_first : (n : ℕ) (xs : List Item) (i : ℕ) (x : Item) → i < n → get_elem? xs i ≡ some x → get_elem? (first_of n xs) i ≡ some x
+pub in_first : (n : ℕ) (xs : List Item) (i : ℕ) (x : Item) → i < n → get_elem? xs i ≡ some x → get_elem? (first_of n xs) i ≡ some x
 in_first zero xs i x l e = absurd (omega arith)
 in_first (suc n) [] i x l e = e
 in_first (suc n) (y ∷ xs) zero x l e = e
@@ -97,14 +97,14 @@ note_item (x ∷ xs) [] a i n e = absurd a
 note_item (x ∷ xs) (m ∷ ns) a zero n e = (x, refl, subst (IsNoteOf x) (some_is m m n e) a.0)
 note_item (x ∷ xs) (m ∷ ns) a (suc i) n e = note_item xs ns a.1 i n e
 
-item_note : (xs : List Item) (ns : List Noted) → AreNotes xs ns → (i : ℕ) (x : Item) → get_elem? xs i ≡ some x → (n : Noted) × (slice_get ns i ≡ Some n) × IsNoteOf x n
+pub item_note : (xs : List Item) (ns : List Noted) → AreNotes xs ns → (i : ℕ) (x : Item) → get_elem? xs i ≡ some x → (n : Noted) × (slice_get ns i ≡ Some n) × IsNoteOf x n
 item_note [] ns a i x e = absurd (some-ne-none x (sym e))
 item_note (y ∷ xs) [] a i x e = absurd a
 item_note (y ∷ xs) (m ∷ ns) a zero x e = (m, refl, subst (λ z. IsNoteOf z m) (some-injective y x e) a.0)
 item_note (y ∷ xs) (m ∷ ns) a (suc i) x e = item_note xs ns a.1 i x e
 
 -- which entries are managed
-managed_by : (r : ℕ) (m : Made) → IsInRole r m → is_read m.op ≡ false → is_peer_event m.caller m.op ≡ false → r ≡ 0
+pub managed_by : (r : ℕ) (m : Made) → IsInRole r m → is_read m.op ≡ false → is_peer_event m.caller m.op ≡ false → r ≡ 0
 managed_by r m s unread not_peer = ⊎_elim (λ (e : r ≡ 0). e)
     (λ some. ⊎_elim (λ (e : r ≡ 1). absurd (both_ways (is_peer_event m.caller m.op) not_peer (s.peer e).1))
     (λ more. absurd (both_ways (is_read m.op) unread (s.reader (omega (arith, some, more))).0)) (cases_eq r 1)) (cases_eq r 0)
@@ -147,13 +147,13 @@ set_in c m t (k ∷ ks) e = ⊎_elim
     (λ z. inr (z.0, (suc z.1.0, z.1.1), z.2))
     (set_in c m (aims_at c t (marked k)) ks e)
 
-deed_opens : (o : Op) (k : ℕ) → deed o ≡ opens k → o ≡ op.Snap record { 0 = k }
+pub deed_opens : (o : Op) (k : ℕ) → deed o ≡ opens k → o ≡ op.Snap record { 0 = k }
 deed_opens (op.Snap c) k e = ap (λ (z : ℕ). op.Snap record { 0 = z }) (ap (λ d. elim d [ opens z ↦ z | ends z ↦ 0 | neither ↦ 0 ]) e)
 deed_opens (op.Resolve c) k e = absurd (true≢false (ap (λ d. elim d [ opens z ↦ false | ends z ↦ true | neither ↦ true ]) e))
 deed_opens (op.Abandon c) k e = absurd (true≢false (ap (λ d. elim d [ opens z ↦ false | ends z ↦ true | neither ↦ true ]) e))
 deed_opens _ k e = absurd (true≢false (ap (λ d. elim d [ opens z ↦ false | ends z ↦ true | neither ↦ true ]) e))
 
-reads_cell : (o : Op) (k : ℕ) → ReadsCell o k → read_of o ≡ Some k
+pub reads_cell : (o : Op) (k : ℕ) → ReadsCell o k → read_of o ≡ Some k
 reads_cell (op.Line (act.Read c)) k e = ap (λ (z : ℕ). Some z) e
 reads_cell (op.Line (act.Await c)) k e = ap (λ (z : ℕ). Some z) e
 reads_cell _ k e = absurd e
@@ -173,7 +173,7 @@ pub record EntryAt (whole : List Item) (j : ℕ) (n : Noted) : Type 0 where
   pub number : item.kept.entry.number ≡ j
   pub fits : Fits (first_of j whole) item
 
-entry_at : (whole : List Item) (ns : List Noted) → Noticed whole ns → (j : ℕ) (n : Noted) → slice_get ns j ≡ Some n → EntryAt whole j n
+pub entry_at : (whole : List Item) (ns : List Noted) → Noticed whole ns → (j : ℕ) (n : Noted) → slice_get ns j ≡ Some n → EntryAt whole j n
 entry_at whole ns g j n e = let t = note_item whole ns g.notes j n e in
     record {
       item = t.0;
@@ -189,7 +189,7 @@ entry_at whole ns g j n e = let t = note_item whole ns g.notes j n e in
     item_at is = record { number = is.number ∙ omega arith; caller = is.caller; stands = is.stands }
 
 -- it stands in the managed line of the entries before number i
-early : (whole : List Item) (n : Noted) (j i : ℕ) (x : EntryAt whole j n) → j < i → x.item.role ≡ 0 → Stands (of_line 0 (first_of i whole)) x.item.kept
+pub early : (whole : List Item) (n : Noted) (j i : ℕ) (x : EntryAt whole j n) → j < i → x.item.role ≡ 0 → Stands (of_line 0 (first_of i whole)) x.item.kept
 early whole n j i x l first = item_stands 0 (first_of i whole) j x.item (in_first i whole j x.item l x.there) (role_in 0 x.item (sym first))
 
 managed_role : (whole : List Item) (n : Noted) (j : ℕ) (x : EntryAt whole j n) → is_managed_entry n ≡ true → x.item.role ≡ 0
@@ -199,18 +199,18 @@ managed_role whole n j x e =
     let parts = and_parts (not (is_peer_event m.caller m.op)) (not (is_read m.op)) t in
     managed_by x.item.role m x.is.stands (not-true (is_read m.op) parts.1) (not-true (is_peer_event m.caller m.op) parts.0)
 
-end_deed : (o : Op) (k : ℕ) → (o ≡ op.Resolve record { 0 = k }) ⊎ (o ≡ op.Abandon record { 0 = k }) → (deed o ≡ ends k) × (is_read o ≡ false) × ((t : Thread) → is_peer_event t o ≡ false)
+pub end_deed : (o : Op) (k : ℕ) → (o ≡ op.Resolve record { 0 = k }) ⊎ (o ≡ op.Abandon record { 0 = k }) → (deed o ≡ ends k) × (is_read o ≡ false) × ((t : Thread) → is_peer_event t o ≡ false)
 end_deed o k (inl e) = (ap deed e, ap is_read e, λ t. ap (is_peer_event t) e)
 end_deed o k (inr e) = (ap deed e, ap is_read e, λ t. ap (is_peer_event t) e)
 
-setter : (whole : List Item) (n : Noted) (j c : ℕ) (x : EntryAt whole j n) → (m : ℕ) × (marked x.item.kept ≡ Some (c, m)) → x.item.role ≡ 0
+pub setter : (whole : List Item) (n : Noted) (j c : ℕ) (x : EntryAt whole j n) → (m : ℕ) × (marked x.item.kept ≡ Some (c, m)) → x.item.role ≡ 0
 setter whole n j c x s = ⊎_elim (λ (e : x.item.role ≡ 0). e) (λ other. absurd (none_not (c, s.0) (sym (x.fits.others other).0 ∙ s.1))) (cases_eq x.item.role 0)
 
 freer : (whole : List Item) (n : Noted) (j m : ℕ) (x : EntryAt whole j n) → has x.item.kept.freed m ≡ true → x.item.role ≡ 0
 freer whole n j m x s = ⊎_elim (λ (e : x.item.role ≡ 0). e) (λ other. absurd (both_ways (has x.item.kept.freed m) (ap (λ ms. has ms m) (x.fits.others other).1) s)) (cases_eq x.item.role 0)
 
 -- a caller's own entries before number i have numbers below j, where none of them stands from j on
-none_from : (whole : List Item) (ns : List Noted) → Noticed whole ns → (t : Thread) (i j : ℕ) → IsBelow j (of_line (caller_line t) (first_of i whole)) → HasKnownFrom ns t i j → ⊥
+pub none_from : (whole : List Item) (ns : List Noted) → Noticed whole ns → (t : Thread) (i j : ℕ) → IsBelow j (of_line (caller_line t) (first_of i whole)) → HasKnownFrom ns t i j → ⊥
 none_from whole ns g t i j below h =
     let c = h.3 in
     let x = entry_at whole ns g h.0 c.element c.there in

@@ -87,7 +87,7 @@ loads_cell slots id c me small bare s r _ here _ =
       tt,
       cell_step s r id c n w record { begins = knows.begins; heard = knows.heard; owned = knows.owned; heard_owned = knows.heard_owned }
           record { owner = g.owner; other = g.other; heard_owner = g.heard_owner; heard_other = g.heard_other; inside = g.inside; owes = g.owes; one = g.one }
-          record { snap = t.snap; unknown = t.unknown }
+          record { snap = t.snap; unknown = t.unknown; over = t.over }
           (celled_same (of_line 0 r.whole) r.gate r.gate s.words (set s.words (2 + c) n) s.views
           (set s.views id w) r.celled (λ k. ap (λ ws. get_or ws (2 + k) 0) (set-get_or s.words (2 + c) 0)) (λ k o h. h)
           (seats (λ j. Debts (of_line 0 r.whole) r.celled.debt) s.views id w
@@ -144,7 +144,7 @@ stores_cell slots id c word me small bare owns is s r _ here _ =
       tt,
       cell_step s r id c word w record { begins = knows.begins; heard = knows.heard; owned = knows.owned; heard_owned = knows.heard_owned }
           record { owner = g.owner; other = g.other; heard_owner = g.heard_owner; heard_other = g.heard_other; inside = g.inside; owes = g.owes; one = g.one }
-          record { snap = t.snap; unknown = t.unknown }
+          record { snap = t.snap; unknown = t.unknown; over = t.over }
           record {
             debt = debt;
             nonempty = λ k o. r.celled.nonempty k (was k o);

@@ -14,6 +14,7 @@ use Rattle.order_table.specs.Rows.{at, put}
 use Rattle.order_table.specs.Owed.{IsNumber, word_by, marked, target, has, is_freed, says_word, sets_cell, frees_target, owes_after, by_place, IsLoaded}
 use Rattle.order_table.specs.Views.{none_owed_in, storing, known, Owns, appended, spent_view, giving, given, hearing, learned}
 use Rattle.order_table.specs.Allowed.{OwesOnly, NoDebt}
+use Rattle.order_table.specs.Stages.{deed, opens}
 use Rattle.order_table.specs.Rule.{IsBelow, Stands, SetsCell, ReadsWord, IsFresh, IsStale, CellIs, Debts, EachLoad, Celled}
 use Rattle.order_table.proofs.Free.{Free}
 use Rattle.order_table.proofs.Places.{at_put_here, at_put_else, length_begins, longer_cases, at_longest, at_joined, at_common, at_without}
@@ -31,8 +32,8 @@ both_false b c e f = ap (λ z. z || c) e ∙ f
 -- what a word says to a caller stays right when a managed entry comes that frees nothing
 pub reads_more : (ml own : List KeptEntry) (k : KeptEntry) (n c w : ℕ) → k.entry.number ≡ n → IsBelow n ml
     → IsBelow n own → ((d m : ℕ) → marked k ≡ Some (d, m) → (target ml d ≡ None) × (is_freed ml m ≡ false))
-    → ((x : ℕ) → has k.freed x ≡ false) → ReadsWord ml own c w → ReadsWord (ml ++ k ∷ []) own c w
-reads_more ml own k n c w is below own_below sets frees r =
+    → ((x : ℕ) → has k.freed x ≡ false) → ((j : ℕ) → deed k.entry.made.op ≡ opens j → ⊥) → ReadsWord ml own c w → ReadsWord (ml ++ k ∷ []) own c w
+reads_more ml own k n c w is below own_below sets frees unopened r =
     let not_set : (m : ℕ) → target ml c ≡ Some m → (x : ℕ) → marked k ≡ Some (c, x) → ⊥ = λ m e x f. none_not m (sym (sets c x f).0 ∙ e) in
     let freed_is : (m : ℕ) → is_freed (ml ++ k ∷ []) m ≡ is_freed ml m = λ m. freed_more ml k m ∙ (ap (λ b. is_freed ml m || b) (frees m) ∙ or_false (is_freed ml m)) in
     record {
@@ -42,6 +43,13 @@ reads_more ml own k n c w is below own_below sets frees r =
           (λ (same : k ≡ a). let l = stands_below n ml b below tb in let m : a.entry.number ≡ n = ap (λ (y : KeptEntry). y.entry.number) (sym same) ∙ is in absurd (omega arith))
           (stands_cases ml k a sa))
           (λ (same : k ≡ b). subst (λ m. IsBelow m own) (sym is ∙ ap (λ (y : KeptEntry). y.entry.number) same) own_below)
+          (stands_cases ml k b sb);
+      unsnapped = λ z a b j sa e sb lt d. ⊎_elim
+          (λ (tb : Stands ml b). ⊎_elim
+          (λ (ta : Stands ml a). r.unsnapped z a b j ta e tb lt d)
+          (λ (same : k ≡ a). let l = stands_below n ml b below tb in let m : a.entry.number ≡ n = ap (λ (y : KeptEntry). y.entry.number) (sym same) ∙ is in absurd (omega arith))
+          (stands_cases ml k a sa))
+          (λ (same : k ≡ b). unopened j (ap (λ (y : KeptEntry). deed y.entry.made.op) same ∙ d))
           (stands_cases ml k b sb);
       not_own = r.not_own;
       alive = λ z m e. ⊎_elim
@@ -123,15 +131,17 @@ loaded_word ml own kn gate c w owed is_open cell real begins secret mine = ⊎_e
         let shorter : length kn < length (f.init ++ f.last ∷ []) = subst (λ l. length kn < length l) f.whole (secret o) in
         let begins' = begins_init kn f.init f.last (subst (IsPrefix kn) f.whole begins) shorter in
         let zero_word = f.word in
+        let none_later : (a b : KeptEntry) → Stands ml a → SetsCell a c → Stands ml b → a.entry.number < b.entry.number → ⊥ = λ a b sa e sb lt. ⊎_elim
+        (λ (ta : Stands f.init a). in_init a ta e)
+        (λ (same : f.last ≡ a). ⊎_elim
+        (λ (tb : Stands f.init b). let l = stands_below f.last.entry.number f.init b f.below tb in
+        let m : f.last.entry.number ≡ a.entry.number = ap (λ (y : KeptEntry). y.entry.number) same in omega arith)
+        (λ (same' : f.last ≡ b). let m : a.entry.number ≡ b.entry.number = ap (λ (y : KeptEntry). y.entry.number) (sym same ∙ same') in omega arith)
+        (stands_cases f.init f.last b (subst (λ l. Stands l b) f.whole sb)))
+        (stands_cases f.init f.last a (subst (λ l. Stands l a) f.whole sa)) in
         record {
-          unknown = λ z a b sa e sb lt. ⊎_elim
-              (λ (ta : Stands f.init a). absurd (in_init a ta e))
-              (λ (same : f.last ≡ a). ⊎_elim
-              (λ (tb : Stands f.init b). let l = stands_below f.last.entry.number f.init b f.below tb in
-              let m : f.last.entry.number ≡ a.entry.number = ap (λ (y : KeptEntry). y.entry.number) same in absurd (omega arith))
-              (λ (same' : f.last ≡ b). let m : a.entry.number ≡ b.entry.number = ap (λ (y : KeptEntry). y.entry.number) (sym same ∙ same') in absurd (omega arith))
-              (stands_cases f.init f.last b (subst (λ l. Stands l b) f.whole sb)))
-              (stands_cases f.init f.last a (subst (λ l. Stands l a) f.whole sa));
+          unknown = λ z a b sa e sb lt. absurd (none_later a b sa e sb lt);
+          unsnapped = λ z a b j sa e sb lt d. none_later a b sa e sb lt;
           not_own = λ z y s e. in_init y (stands_begins kn f.init y begins' (mine y s e)) e;
           alive = λ z m e. subst (λ x. is_freed ml x ≡ false) (some_is 0 f.object m (sym (ap (λ l. target l c) f.whole ∙ target_aimed c f.object f.init f.last f.sets) ∙ e)) f.alive;
           gone = λ z. absurd (omega arith);
@@ -144,6 +154,7 @@ loaded_word ml own kn gate c w owed is_open cell real begins secret mine = ⊎_e
         by_target : (o : Option ℕ) → target ml c ≡ o → ReadsWord ml own c w
         by_target None e = let z' = says_none c ml e in record {
           unknown = λ z a b sa f sb lt. let t = target_set c ml a sa f in absurd (none_not t.0 (sym e ∙ t.1));
+          unsnapped = λ z a b j sa f sb lt d. let t = target_set c ml a sa f in none_not t.0 (sym e ∙ t.1);
           not_own = λ z y s f. let t = target_set c ml y (stands_begins kn ml y begins (mine y s f)) f in none_not t.0 (sym e ∙ t.1);
           alive = λ z m f. absurd (none_not m (sym e ∙ f));
           gone = λ z. absurd (omega arith);
@@ -152,6 +163,7 @@ loaded_word ml own kn gate c w owed is_open cell real begins secret mine = ⊎_e
         by_target (Some m) e = let pos = real m e in ⊎_elim
             (λ (f : is_freed ml m ≡ true). let one = says_gone c m ml e f in record {
               unknown = λ z. absurd (omega arith);
+              unsnapped = λ z. absurd (omega arith);
               not_own = λ z. absurd (omega arith);
               alive = λ z. absurd (omega arith);
               gone = λ z. (m, e, f);
@@ -159,6 +171,7 @@ loaded_word ml own kn gate c w owed is_open cell real begins secret mine = ⊎_e
             })
             (λ (f : is_freed ml m ≡ false). let more = says_object c m ml e f in record {
               unknown = λ z. absurd (omega arith);
+              unsnapped = λ z. absurd (omega arith);
               not_own = λ z. absurd (omega arith);
               alive = λ z. absurd (omega arith);
               gone = λ z. absurd (omega arith);
@@ -169,11 +182,11 @@ loaded_word ml own kn gate c w owed is_open cell real begins secret mine = ⊎_e
 -- loads of another seat stay right
 pub loads_more : (ml : List KeptEntry) (k : KeptEntry) (n : ℕ) (u : View) (ls : List (ℕ × ℕ)) → k.entry.number ≡ n → IsBelow n ml
     → ((i : ℕ) → IsBelow n (known u i)) → ((d m : ℕ) → marked k ≡ Some (d, m) → (target ml d ≡ None) × (is_freed ml m ≡ false))
-    → ((x : ℕ) → has k.freed x ≡ false) → EachLoad ml u ls → EachLoad (ml ++ k ∷ []) u ls
-loads_more ml k n u [] is below own sets frees e = tt
-loads_more ml k n u (l ∷ ls) is below own sets frees e = (
-  (λ t o. reads_more ml (known u (t + 10)) k n l.0 l.1 is below (own (t + 10)) sets frees (e.0 t o)),
-  loads_more ml k n u ls is below own sets frees e.1,
+    → ((x : ℕ) → has k.freed x ≡ false) → ((j : ℕ) → deed k.entry.made.op ≡ opens j → ⊥) → EachLoad ml u ls → EachLoad (ml ++ k ∷ []) u ls
+loads_more ml k n u [] is below own sets frees unopened e = tt
+loads_more ml k n u (l ∷ ls) is below own sets frees unopened e = (
+  (λ t o. reads_more ml (known u (t + 10)) k n l.0 l.1 is below (own (t + 10)) sets frees unopened (e.0 t o)),
+  loads_more ml k n u ls is below own sets frees unopened e.1,
 )
 
 pub load_there : (ml : List KeptEntry) (v : View) (ls : List (ℕ × ℕ)) (c w : ℕ) → EachLoad ml v ls → IsLoaded ls c w → (t : ℕ) → Owns v (t + 10) → ReadsWord ml (known v (t + 10)) c w

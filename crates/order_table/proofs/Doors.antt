@@ -117,7 +117,7 @@ enters slots id me reader pos small settled owns s r _ here _ =
             owes = no_bit v.owes settled.clear;
             one = λ _. settled.clear;
           } others
-          (still_waits s r id w (let t = r.waiting.each_wait id v here in record { snap = t.snap; unknown = t.unknown }))
+          (still_waits s r id w (let t = r.waiting.each_wait id v here in record { snap = t.snap; unknown = t.unknown; over = t.over }))
           (cells_stay s r id r.gate (bit_or n bit) w (λ c o h. h) (let d = r.celled.each_debt id v here in
           record { owner = d.owner; heard_owner = d.heard_owner; secret = d.secret; heard_secret = d.heard_secret; mine = d.mine; heard_mine = d.heard_mine }) (λ l. tt))
           (pins_stay s r id r.gate (bit_or n bit) v w here refl refl (λ k o. let t = r.pinned.storing k o in (or_keeps n bit k t.2, t.3))) (r.scanned id v here),
@@ -166,7 +166,7 @@ gives_back slots id me owing out nothing s r _ here fits =
           record { begins = knows.begins; heard = knows.heard; owned = knows.owned; heard_owned = knows.heard_owned }
           record { owner = g.owner; other = g.other; heard_owner = g.heard_owner; heard_other = g.heard_other; inside = no_bit v.inside out; owes = λ l. absurd (omega arith); one = λ l. refl }
           (λ j u other at_j. gates_cleared r.gate n k u small (λ o. stranger s r id j (1 + k) v u here at_j other has.role o) (r.each_gate j u at_j))
-          (still_waits s r id w (let t = r.waiting.each_wait id v here in record { snap = t.snap; unknown = t.unknown }))
+          (still_waits s r id w (let t = r.waiting.each_wait id v here in record { snap = t.snap; unknown = t.unknown; over = t.over }))
           (cells_stay s r id r.gate (bit_and n (2 ^ 64 - 1 - 2 ^ k)) w (λ c o h. h)
           (let d = r.celled.each_debt id v here in record {
             owner = d.owner;
@@ -214,7 +214,7 @@ leaves slots id me within nothing s r _ here fits =
             one = λ l. g.one within;
           }
           (λ j u other at_j. gates_cleared r.gate n k u small (λ o. stranger s r id j (1 + k) v u here at_j other has.role o) (r.each_gate j u at_j))
-          (still_waits s r id w (let t = r.waiting.each_wait id v here in record { snap = t.snap; unknown = t.unknown }))
+          (still_waits s r id w (let t = r.waiting.each_wait id v here in record { snap = t.snap; unknown = t.unknown; over = t.over }))
           (cells_stay s r id r.gate (bit_and n (2 ^ 64 - 1 - 2 ^ k)) w (λ c o h. h)
           (let d = r.celled.each_debt id v here in record {
             owner = d.owner;
@@ -282,7 +282,7 @@ closes slots id me cycle bare bare' owns idle low next s r _ here fits =
           let was_open : r.gate ≡ 0 = sym g_is ∙ idle in
           let none_due : (u : View) → 0 < u.found → IsDue r.gate (stage (of_line 0 r.whole)) u.found → ⊥ = λ u l due. let a = due.0 in omega arith in
           waiting_closed r.whole cycle s.views (set s.views id w) next' (subst (λ z. Waiting r.whole z s.views) was_open r.waiting)
-          (seats (λ j. Waits r.whole cycle) s.views id w (let t = waits_gate r.whole r.gate cycle v (none_due v) (r.waiting.each_wait id v here) in record { snap = t.snap; unknown = t.unknown })
+          (seats (λ j. Waits r.whole cycle) s.views id w (let t = waits_gate r.whole r.gate cycle v (none_due v) (r.waiting.each_wait id v here) in record { snap = t.snap; unknown = t.unknown; over = t.over })
           (λ j u other at_j. waits_gate r.whole r.gate cycle u (none_due u) (r.waiting.each_wait j u at_j))))
           (cells_stay s r id cycle (512 * cycle) w (λ c o h. omega arith)
           (let d = r.celled.each_debt id v here in record {
@@ -352,7 +352,7 @@ opens_gate slots id me bare bare' owns holding ended paid s r _ here _ =
           })
           (let none_due : (u : View) → 0 < u.found → IsDue r.gate (stage (of_line 0 r.whole)) u.found → ⊥ = λ u l due. let a = due.0 in let b = due.1 in omega arith in
           waiting_opened r.whole r.gate s.views (set s.views id w) (omega arith) r.waiting
-          (seats (λ j. Waits r.whole 0) s.views id w (let t = waits_gate r.whole r.gate 0 v (none_due v) (r.waiting.each_wait id v here) in record { snap = t.snap; unknown = t.unknown })
+          (seats (λ j. Waits r.whole 0) s.views id w (let t = waits_gate r.whole r.gate 0 v (none_due v) (r.waiting.each_wait id v here) in record { snap = t.snap; unknown = t.unknown; over = t.over })
           (λ j u other at_j. waits_gate r.whole r.gate 0 u (none_due u) (r.waiting.each_wait j u at_j))))
           (cells_stay s r id 0 (bit_and n 511) w (λ c o h. absurd (both_ways (r.celled.debt c) (none_owed (of_line 0 r.whole) r.celled.debt v (r.celled.each_debt id v here) owns paid c) o))
           (let d = r.celled.each_debt id v here in record {

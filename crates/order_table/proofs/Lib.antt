@@ -15,4 +15,5 @@ pub mod Parting
 pub mod Wholes
 pub mod Heard
 pub mod ByNumber
+pub mod GatedReads
 pub mod Replay

@@ -7,7 +7,9 @@
 use Rattle.std.proofs.Common.{◌≡◌, ◌≢◌, ◌⊎◌, inl, inr, ⊎_elim, ℕ, zero, suc, ◌+◌, ◌<◌, ◌≤◌, Bool, true, false, ◌||◌, List, [], ◌∷◌, ◌++◌, length, refl, sym, ap, ◌∙◌, subst, arith, eq-eqb}
 use Rattle.std.specs.Prelude.{if◌then◌else◌, ◌==◌}
 use Rattle.std.proofs.lemmas.Bool.{cases_Bool, cases_eq, eqb-true, or_cases, both_ways}
+use mathlib.Core.Option.{some, some-injective, some-ne-none}
 use mathlib.Core.List.{IsPrefix}
+use lib.ListN.{get_elem?}
 use Rattle.order_table.specs.declared.views.KeptEntry.{KeptEntry}
 use Rattle.order_table.specs.declared.views.View.{View}
 use Rattle.joint_machine.specs.HistoryLines.{caller_line}
@@ -43,6 +45,12 @@ below_line i n k (x ∷ xs) r l = let rest = below_line i (n + 1) k xs r.1 (omeg
     either_way : (b : Bool) → x.kept.entry.number < k → IsBelow k (of_line i xs) → IsBelow k (if b then x.kept ∷ of_line i xs else of_line i xs)
     either_way true small rest = (small, rest)
     either_way false small rest = rest
+
+-- and so has each of its entries
+pub below_item : (n k : ℕ) (xs : List Item) → RunsFrom n xs → n + length xs ≤ k → (i : ℕ) (y : Item) → get_elem? xs i ≡ some y → y.kept.entry.number < k
+below_item n k [] r l i y e = absurd (some-ne-none y (sym e))
+below_item n k (x ∷ xs) r l zero y e = let number = r.0.number in subst (λ (z : Item). z.kept.entry.number < k) (some-injective x y e) (omega arith)
+below_item n k (x ∷ xs) r l (suc i) y e = below_item (n + 1) k xs r.1 (omega arith) i y e
 
 pub below_front : (k : ℕ) (xs ys : List KeptEntry) → IsBelow k (xs ++ ys) → IsBelow k xs
 below_front k [] ys b = tt

@@ -68,7 +68,7 @@ only_scans s o id v scanned here scans =
         one = g.one;
       } (λ j u _ at_j. o.each_gate j u at_j);
       waiting = waiting_views o.whole o.gate s.views (set s.views id w) o.waiting
-          (seats (λ j. Waits o.whole o.gate) s.views id w record { snap = t.snap; unknown = t.unknown } (λ j u _ at_j. o.waiting.each_wait j u at_j));
+          (seats (λ j. Waits o.whole o.gate) s.views id w record { snap = t.snap; unknown = t.unknown; over = t.over } (λ j u _ at_j. o.waiting.each_wait j u at_j));
       celled = celled_bounded (of_line 0 o.whole) o.gate o.gate s.words s.words s.views (set s.views id w) o.celled (λ c l. refl) (λ c z h. h)
           (seats (λ j. Debts (of_line 0 o.whole) o.celled.debt) s.views id w
           record { owner = d.owner; heard_owner = d.heard_owner; secret = d.secret; heard_secret = d.heard_secret; mine = d.mine; heard_mine = d.heard_mine }
@@ -177,7 +177,7 @@ stores_pin slots id r word me pos small own is s o _ here _ =
         each_gate = subst (λ b. (j : ℕ) (v : View) → get_elem? (set s.views id w) j ≡ some v → Gates o.gate b v) (sym gate_word) (seats (λ j. Gates o.gate W) s.views id w
             record { owner = g.owner; other = g.other; heard_owner = g.heard_owner; heard_other = g.heard_other; inside = g.inside; owes = g.owes; one = g.one } (λ j u _ at_j. o.each_gate j u at_j));
         waiting = waiting_views o.whole o.gate s.views (set s.views id w) o.waiting
-            (seats (λ j. Waits o.whole o.gate) s.views id w record { snap = t.snap; unknown = t.unknown } (λ j u _ at_j. o.waiting.each_wait j u at_j));
+            (seats (λ j. Waits o.whole o.gate) s.views id w record { snap = t.snap; unknown = t.unknown; over = t.over } (λ j u _ at_j. o.waiting.each_wait j u at_j));
         celled = celled_bounded (of_line 0 o.whole) o.gate o.gate s.words (set s.words (65 + r) word) s.views
             (set s.views id w) o.celled (λ c l. get_or-set_other s.words (65 + r) (2 + c) word 0 (λ e. omega arith)) (λ c z h. h)
             (seats (λ j. Debts (of_line 0 o.whole) o.celled.debt) s.views id w

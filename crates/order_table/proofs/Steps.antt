@@ -19,6 +19,7 @@ use Rattle.atomic_table.proofs.Lists.{at_set, set_here, set_else, at_longer, at_
 use Rattle.joint_machine.specs.declared.names.MNum.{MNum}
 use Rattle.joint_machine.specs.declared.names.Var.{Var}
 use Rattle.joint_machine.specs.declared.lines.Act.TheVariants as act
+use Rattle.joint_machine.specs.declared.events.Op.{Op}
 use Rattle.joint_machine.specs.declared.events.Op.TheVariants as op
 use Rattle.joint_machine.specs.declared.events.Made.{Made}
 use Rattle.joint_machine.specs.Control.{caller_place}
@@ -26,15 +27,15 @@ use Rattle.order_table.specs.declared.views.KeptEntry.{KeptEntry}
 use Rattle.order_table.specs.declared.views.View.{View}
 use Rattle.joint_machine.specs.HistoryLines.{caller_line}
 use Rattle.order_table.specs.Rows.{at, longer}
-use Rattle.order_table.specs.Stages.{IsClosed, opens, deed, stage_after, stage}
-use Rattle.order_table.specs.Owed.{PinDeed, fills, empties, pin_deed, owing, pin, pin_after, marked, target, has, is_freed, by_place, owes_after, stays, fill_after, empty_after}
+use Rattle.order_table.specs.Stages.{IsClosed, Deed, opens, ends, neither, deed, stage_after, stage}
+use Rattle.order_table.specs.Owed.{PinDeed, fills, empties, pin_deed, owing, pin, pin_after, marked, target, has, is_freed, by_place, owes_after, stays, fill_after, empty_after, read_of}
 use Rattle.order_table.specs.Views.{IsNext, IsCompared, IsInRole, lines_of_none, pins_kept, pin_owed, OwnsAll, IsOpen, kept, known, Owns, first_view, spent_view, appended, giving, given, hearing}
 use Rattle.order_table.specs.Views.{learned}
 use Rattle.order_table.specs.Allowed.{Settled, NoDebt, MaySet, SaysPending, MayDo, MayMake, IsQuiet}
-use Rattle.order_table.specs.Rule.{HasOwner, HasBit, Scans, Pinned, ReadsWord, CellIs, Debts, EachLoad, Celled, Unknown, IsSnapped, Waits, IsPending, IsDue, Stands, Item, is_in, of_line, RunsFrom}
+use Rattle.order_table.specs.Rule.{HasOwner, HasBit, Scans, Pinned, ReadsWord, CellIs, Debts, EachLoad, Celled, Unknown, IsLetIn, NotOver, Follows, IsSnapped, IsSnappedBefore, Waits, IsPending, IsDue, Stands, Item, is_in, of_line, RunsFrom}
 use Rattle.order_table.specs.Rule.{IsBelow, Knows, Gates, IsHeldFor, Ordered, AreLinesOfOneHistory}
 use Rattle.order_table.specs.Tells.{Appended, Compared, Compares}
-use Rattle.joint_machine.specs.Lines.{IsThread}
+use Rattle.joint_machine.specs.Lines.{IsThread, is_read}
 use Rattle.order_table.proofs.Gate.{no_bit, if_true, if_false, stage_more, held_more, gates_giving, gates_given, gates_spent, gates_hearing, gates_learned, gates_appended}
 use Rattle.std.proofs.Math.Nat.{one-le-pow}
 use Rattle.order_table.proofs.Pins.{no_scans, scans_more, pin_at, scanned_at, pin_more, owing_after, pinned_keep, not_storing, not_clearing, pinned_entry, filling, filling_last}
@@ -43,7 +44,7 @@ use Rattle.order_table.proofs.Cells.{paid_more, cell_after, settled_cell, none_o
 use Rattle.order_table.proofs.Cells.{celled_same}
 use Rattle.order_table.proofs.Waits.{stands_cases, stands_more, stands_last, stands_below, waits_more, waits_same, waits_not, waiting_views, waiting_other, waiting_managed}
 use Rattle.order_table.proofs.Free.{Free, peer_stays, may_pin, frees_held, sets_frees_none, others_mark, others_free}
-use Rattle.order_table.proofs.Lines.{of_line_in, of_line_out, runs_more, below_line, below_begins, bounded, in_cases, role_in, caller_in, appended_in, appended_out}
+use Rattle.order_table.proofs.Lines.{of_line_in, of_line_out, runs_more, below_line, below_item, below_begins, bounded, in_cases, role_in, caller_in, appended_in, appended_out}
 use Rattle.order_table.proofs.Places.{at_put_here, begins_more, longer_begins, first_begins_longer, second_begins_longer, whole_longer, longer_whole, at_longest, at_joined, at_common, at_without}
 use Rattle.order_table.proofs.Places.{or_true}
 
@@ -140,10 +141,10 @@ no_free freed f x = ⊎_elim (λ e. absurd (f x e)) (λ e. e) (cases_Bool (has f
 celled_managed : (s : St) (r : Ordered s) (id : ℕ) (v : View) (x : Item) → x.role ≡ 0 → v.heard_owns ≡ []
     → v.heard ≡ [] → Owns v x.role → Owns v (caller_line x.kept.entry.made.caller) → get_elem? s.views id ≡ some v
     → IsBelow x.kept.entry.number (of_line 0 r.whole) → ((i : ℕ) → IsBelow x.kept.entry.number (of_line i r.whole)) → NoDebt v → MaySet v (marked x.kept)
-    → ((c m : ℕ) → marked x.kept ≡ Some (c, m) → (y : ℕ) → has x.kept.freed y ≡ false) → ((m : ℕ) → has x.kept.freed m ≡ true → 0 < r.gate)
+    → ((c m : ℕ) → marked x.kept ≡ Some (c, m) → (y : ℕ) → has x.kept.freed y ≡ false) → ((m : ℕ) → has x.kept.freed m ≡ true → 0 < r.gate) → ((j : ℕ) → deed x.kept.entry.made.op ≡ opens j → 0 < r.gate)
     → (words' : List ℕ) → ((c : ℕ) → get_or words' (2 + c) 0 ≡ get_or s.words (2 + c) 0) → x.role < 10
     → Celled (of_line 0 r.whole ++ x.kept ∷ []) r.gate words' (set s.views id (appended v x.role x.kept))
-celled_managed s r id v x first bare bare' a b here below all_below paid may clean frees words' same small =
+celled_managed s r id v x first bare bare' a b here below all_below paid may clean frees opening_held words' same small =
     let w : View = appended v x.role x.kept in
     let ml : List KeptEntry = of_line 0 r.whole in
     let k : KeptEntry = x.kept in
@@ -184,7 +185,7 @@ celled_managed s r id v x first bare bare' a b here below all_below paid may cle
           (λ j u other at_j l. let theirs = r.each_seat j u at_j in let is_open = ((r.each_gate j u at_j).inside l).1 in
           loads_more ml k k.entry.number u u.loads refl below (λ i. below_begins k.entry.number (known u i) (of_line i r.whole) (theirs.begins i) (all_below i))
           (λ d m e. let t = sets d m e in (t.0, t.1))
-          (no_free k.freed (λ m h. let p = frees m h in omega arith)) (r.celled.each_load j u at_j l));
+          (no_free k.freed (λ m h. let p = frees m h in omega arith)) (λ i d. let p = opening_held i d in omega arith) (r.celled.each_load j u at_j l));
     }
 
 celled_other : (s : St) (r : Ordered s) (id : ℕ) (v : View) (x : Item) → is_in 0 x ≡ false → v.heard_owns ≡ []
@@ -212,6 +213,21 @@ celled_other s r id v x out bare bare' a b here unmarked words' same small =
     }
     (λ j u other at_j. r.celled.each_debt j u at_j))
     (seats (λ j u. 0 < u.inside → EachLoad (of_line 0 r.whole) u u.loads) s.views id w (λ l. tt) (λ j u other at_j. r.celled.each_load j u at_j))
+
+-- a reader's event reads some cell
+read_cell_of : (o : Op) → is_read o ≡ true → (c : ℕ) × (read_of o ≡ Some c)
+read_cell_of (op.Line (act.Read c)) e = (c.0, refl)
+read_cell_of (op.Line (act.Await c)) e = (c.0, refl)
+read_cell_of _ e = absurd (true≢false (sym e))
+
+-- what may be done to the cycles follows where they stand, and opening one asks for the gate
+follows : (v : View) (d : Deed) → MayDo v d → Follows (stage (known v 0)) d
+follows v (opens k) m = m.0
+follows v (ends k) m = m
+follows v neither m = tt
+
+opening_holds : (v : View) (gate : ℕ) (d : Deed) (j : ℕ) → v.holds ≡ gate → MayDo v d → d ≡ opens j → 0 < gate
+opening_holds v gate d j own may e = let m : MayDo v (opens j) = subst (MayDo v) e may in let next = m.0 in let same = m.1 in omega arith
 
 -- an append: the word rises by one, and the seat's entry has the number found
 pub appends : (slots id : ℕ) (me : M) (role : ℕ) (made : Made) (aim : Option MNum) (freed : List MNum)
@@ -249,6 +265,8 @@ appends slots id me role made aim freed compared caller stands a b room may s r 
     ∙ ap (λ ks. pin_after (pin (of_line (caller_line made.caller) r.whole)) (owing (pin ks) (pin_deed made.caller made.op made.reply))) (sym mine_own.1))) in
     let taken : (y : Var) → made.op ≡ op.Line (act.Take y) → at 0 x.kept.pins place ≡ pin (of_line (caller_line made.caller) r.whole) = λ y f.
     ap (λ o. at 0 (pins_kept me.0 made.caller o) place) f ∙ (at_put_here 0 [] place (pin (known me.0 (caller_line made.caller))) ∙ ap pin mine_own.1) in
+    let items_below : (i : ℕ) (y : Item) → get_elem? r.whole i ≡ some y → y.kept.entry.number < n = below_item 0 n r.whole r.numbers (omega arith) in
+    let is_open : IsLetIn x → r.gate ≡ 0 = λ z. let c = read_cell_of made.op (stands.reader z.0).0 in let t = may.reads z.0 c.0 z.1 c.1 z.2 in (my_gate.inside t.0).1 in
     let all_below : (i : ℕ) → IsBelow n (of_line i r.whole) = λ i. below_line i 0 n r.whole r.numbers (omega arith) in (
       w,
       keeps,
@@ -297,7 +315,10 @@ appends slots id me role made aim freed compared caller stands a b room may s r 
             waiting_managed r.whole r.gate n s.views (set s.views id w) me.0 x record {
               sets = λ _ c m f. let t = may.cells first c m f in (t.1, subst (λ ks. target ks c ≡ None) all t.2, subst (λ ks. is_freed ks m ≡ false) all t.3);
               others = λ other. absurd (other first);
+              cycles = λ _. subst (λ ks. Follows (stage ks) (deed made.op)) all (follows me.0 (deed made.op) (may.cycles first));
               pending = λ reader. absurd (omega arith);
+              over = λ reader. absurd (omega arith);
+              due = λ inside. absurd (let reader = inside.0 in omega arith);
               read = λ reader. absurd (omega arith);
               filled = λ reader. absurd (omega arith);
               unfilled = λ reader. absurd (omega arith);
@@ -306,10 +327,10 @@ appends slots id me role made aim freed compared caller stands a b room may s r 
                   ap (λ o. at 0 (pins_kept me.0 made.caller o) k) f ∙ (pin_at me.0.scanned k w'.0 pos w'.1
                   ∙ r.scanned id me.0 here mine_first (subst (IsNext me.0) (sym next.1) next.0) k w'.0 pos low w'.1);
               taken = taken;
-            } (of_line_in 0 r.whole x e ∙ ap (λ ks. ks ++ x.kept ∷ []) (sym all)) all r.waiting first refl
+            } (of_line_in 0 r.whole x e ∙ ap (λ ks. ks ++ x.kept ∷ []) (sym all)) all r.waiting first refl items_below
             (below_begins n (known me.0 0) (of_line 0 r.whole) (mine.begins 0) (all_below 0)) (my_gate.owner mine_first) (may.cycles first) (subst (λ ks. IsHeldFor r.gate (stage ks)) (sym all) r.held)
             (seats (λ j. Waits (r.whole ++ x ∷ []) r.gate) s.views id w (waits_not (r.whole ++ x ∷ []) r.gate w refl)
-            (λ j u other at_j. waits_more r.whole r.gate n me.0 u x (of_line_in 0 r.whole x e) all refl (subst (IsBelow n) (sym all) (all_below 0))
+            (λ j u other at_j. waits_more r.whole r.gate n me.0 u x (of_line_in 0 r.whole x e) all refl first items_below (subst (IsBelow n) (sym all) (all_below 0))
             (λ i. below_begins n (known u i) (of_line i r.whole) ((r.each_seat j u at_j).begins i) (all_below i)) (my_gate.owner mine_first) (may.cycles first) (r.waiting.each_wait j u at_j))))
             (λ e. waiting_other r.whole r.gate s.views (set s.views id w) x (of_line_out 0 r.whole x e) r.waiting
             record {
@@ -318,9 +339,16 @@ appends slots id me role made aim freed compared caller stands a b room may s r 
                 others_mark role made.caller made.op aim (λ z. (stands.peer z).1) (λ z. (stands.reader z).0) small other,
                 others_free role made.caller made.op freed (λ z. (stands.peer z).1) (λ z. (stands.reader z).0) other,
               );
+              cycles = λ first. absurd (both_ways (is_in 0 x) e (role_in 0 x (sym first)));
               pending = (λ reader k p. let t = may.pending reader k p in
                   subst (λ (z : List KeptEntry × ℕ). Unknown (of_line 0 r.whole) z.0 z.1) (λ i. ((mine.owned (caller_line made.caller) b).1 i, t.1 i))
                   (my_wait.unknown (let l = t.0 in let same = t.1 in omega arith) (caller_place made.caller) b));
+              over = (λ reader k p. let t = may.pending reader k p in subst (λ (z : List KeptEntry × ℕ). NotOver r.whole z.0 z.1)
+                  (λ i. ((mine.owned (caller_line made.caller) b).1 i, t.1 i)) (my_wait.over (let l = t.0 in let same = t.1 in omega arith) (caller_place made.caller) b));
+              due = λ inside i k y at_i f. let none = is_open inside in ⊎_elim
+                  (λ (z : IsSnappedBefore (of_line 0 r.whole) y.kept.entry.number k). (z.0, z.1, z.2))
+                  (λ (z : IsDue r.gate (stage (of_line 0 r.whole)) k × IsBelow y.kept.entry.number (of_line 0 r.whole)). let same = z.0.0 in let next = z.0.1 in absurd (omega arith))
+                  (r.waiting.pending i y at_i f.0 k f.1);
               read = λ reader c w e f. let t = may.reads reader c w e f in let gate_is = (my_gate.inside t.0).1 in (
                 r.held.0 gate_is,
                 subst (λ ks. ReadsWord (of_line 0 r.whole) ks c w) (mine.owned (caller_line made.caller) b).1
@@ -335,8 +363,10 @@ appends slots id me role made aim freed compared caller stands a b room may s r 
             (λ (z : IsSnapped (of_line 0 r.whole) me.0.found). inl (z.0, z.1, z.2, λ c sc lt. stands_below n (of_line 0 r.whole) c (all_below 0) sc))
             (λ (z : IsDue r.gate (stage (of_line 0 r.whole)) me.0.found). inr (z, all_below 0))
             (my_wait.snap (let l = t.0 in let same = t.1 in omega arith))))
+            is_open
             (seats (λ j. Waits (r.whole ++ x ∷ []) r.gate) s.views id w (waits_not (r.whole ++ x ∷ []) r.gate w refl)
-            (λ j u other at_j. waits_same r.whole r.gate u x (of_line_out 0 r.whole x e) (r.waiting.each_wait j u at_j))))
+            (λ j u other at_j. waits_same r.whole r.gate u x (of_line_out 0 r.whole x e)
+            (λ i. below_begins n (known u i) (of_line i r.whole) ((r.each_seat j u at_j).begins i) (all_below i)) (r.waiting.each_wait j u at_j))))
             (cases_Bool (is_in 0 x));
         scanned = seats (λ j. Scans (r.whole ++ x ∷ [])) s.views id w (no_scans (r.whole ++ x ∷ []) w refl)
             (λ j u other at_j. scans_more r.whole (r.whole ++ x ∷ []) place d u
@@ -358,7 +388,8 @@ appends slots id me role made aim freed compared caller stands a b room may s r 
             (celled_managed s r id me.0 x first bare bare' a b here (all_below 0) all_below (may.paid (λ z. omega arith)).0
             (may.cells first) (λ c m e y. ap (λ ms. has ms y) (sets_frees_none made.op made.caller aim freed c m e))
             (frees_held me.0 r.gate made.op freed (my_gate.owner (subst (Owns me.0) first a)) (subst (λ ks. IsHeldFor r.gate (stage ks)) (sym (mine.owned 0 (subst (Owns me.0) first a)).1) r.held)
-            (may.cycles first)) (set s.words 0 ((n + 1) % 2 ^ 64)) (λ c. get_or-set_other s.words 0 (2 + c) ((n + 1) % 2 ^ 64) 0 (λ z. omega arith)) small))
+            (may.cycles first)) (λ j d. opening_holds me.0 r.gate (deed made.op) j (my_gate.owner (subst (Owns me.0) first a)) (may.cycles first) d)
+            (set s.words 0 ((n + 1) % 2 ^ 64)) (λ c. get_or-set_other s.words 0 (2 + c) ((n + 1) % 2 ^ 64) 0 (λ z. omega arith)) small))
             (λ e. subst (λ ks. Celled ks r.gate (set s.words 0 ((n + 1) % 2 ^ 64)) (set s.views id w)) (sym (of_line_out 0 r.whole x e))
             (celled_other s r id me.0 x e bare bare' a b here (others_mark role made.caller made.op aim (λ z. (stands.peer z).1) (λ z. (stands.reader z).0) small
             (λ z. both_ways (is_in 0 x) e (role_in 0 x (sym z)))) (set s.words 0 ((n + 1) % 2 ^ 64)) (λ c. get_or-set_other s.words 0 (2 + c) ((n + 1) % 2 ^ 64) 0 (λ z. omega arith)) small))
@@ -395,7 +426,7 @@ opens_order = record {
   held = ((λ e. (0, refl)), λ l. absurd (omega arith));
   each_gate = only_gate;
   scanned = only_scan;
-  waiting = record { snapped = λ l. absurd (omega arith); quiet = λ l. absurd (omega arith); fits = tt; pending = none_there; each_wait = only_wait };
+  waiting = record { snapped = λ l. absurd (omega arith); quiet = λ l. absurd (omega arith); shut = λ l. absurd (omega arith); fits = tt; pending = none_there; each_wait = only_wait };
   celled = record {
     debt = λ c. false;
     nonempty = λ c o. absurd (true≢false (sym o));
@@ -605,7 +636,11 @@ cuts id v lines settled s r here =
       waiting = let waits = r.waiting.each_wait id v here in waiting_views r.whole r.gate s.views (set s.views id (giving lines v) ++ given lines v ∷ []) r.waiting (λ j u e. ⊎_elim
           (λ (t : (j < length (set s.views id (giving lines v))) × (get_elem? (set s.views id (giving lines v)) j ≡ some u)).
           seats (λ k. Waits r.whole r.gate) s.views id (giving lines v)
-          record { snap = waits.snap; unknown = λ l t o. waits.unknown l t (and_parts (at false v.owns (t + 10)) (not (at false lines (t + 10))) (sym (at_without v.owns lines (t + 10)) ∙ o)).0 }
+          record {
+            snap = waits.snap;
+            unknown = λ l t o. waits.unknown l t (and_parts (at false v.owns (t + 10)) (not (at false lines (t + 10))) (sym (at_without v.owns lines (t + 10)) ∙ o)).0;
+            over = λ l t o. waits.over l t (and_parts (at false v.owns (t + 10)) (not (at false lines (t + 10))) (sym (at_without v.owns lines (t + 10)) ∙ o)).0;
+          }
           (λ k w other at_k. r.waiting.each_wait k w at_k) j u t.1)
           (λ (t : (j ≡ length (set s.views id (giving lines v))) × (given lines v ≡ u)). subst (Waits r.whole r.gate) t.1 (waits_not r.whole r.gate (given lines v) refl))
           (at_end (set s.views id (giving lines v)) (given lines v) u j e));

@@ -11,7 +11,7 @@ use Rattle.order_table.specs.declared.views.View.{View}
 use Rattle.order_table.specs.Stages.{Deed, opens, ends, neither, deed, stage_after, stage_from, stage}
 use Rattle.order_table.specs.Views.{known}
 use Rattle.order_table.specs.Allowed.{MayDo, SaysPending}
-use Rattle.order_table.specs.Rule.{Item, of_line, IsBelow, IsHeldFor, Stands, IsSnapped, IsSnappedBefore, IsDue, Unknown, Fits, EachFits, Waits, IsPending, Waiting}
+use Rattle.order_table.specs.Rule.{Item, of_line, IsBelow, IsHeldFor, Stands, IsSnapped, IsSnappedBefore, IsDue, Unknown, IsLetIn, FindsHeld, ShowsOver, NotOver, Fits, EachFits, Waits, IsPending, Waiting}
 use Rattle.order_table.proofs.Gate.{stage_grows, stage_more}
 
 pub stands_more : (ks : List KeptEntry) (x k : KeptEntry) → Stands ks k → Stands (ks ++ x ∷ []) k
@@ -40,6 +40,17 @@ ended_stage ks a k s e = at_place 1 ks s.0 s.1
     at_place n [] j h = absurd (some-ne-none a (sym h))
     at_place n (x ∷ xs) zero h = let d : deed x.entry.made.op ≡ ends k = ap (λ (y : KeptEntry). deed y.entry.made.op) (some-injective x a h) ∙ e in
         let now : stage_after n (deed x.entry.made.op) ≡ max n (2 * k + 1) = ap (stage_after n) d in
+        let grows = stage_grows (stage_after n (deed x.entry.made.op)) xs in omega arith
+    at_place n (x ∷ xs) (suc j) h = at_place (stage_after n (deed x.entry.made.op)) xs j h
+
+-- a cycle that was opened has come as far as that
+pub opened_stage : (ks : List KeptEntry) (a : KeptEntry) (k : ℕ) → Stands ks a → deed a.entry.made.op ≡ opens k → 2 * k ≤ stage ks
+opened_stage ks a k s e = at_place 1 ks s.0 s.1
+  where
+    at_place : (n : ℕ) (l : List KeptEntry) (j : ℕ) → get_elem? l j ≡ some a → 2 * k ≤ stage_from n l
+    at_place n [] j h = absurd (some-ne-none a (sym h))
+    at_place n (x ∷ xs) zero h = let d : deed x.entry.made.op ≡ opens k = ap (λ (y : KeptEntry). deed y.entry.made.op) (some-injective x a h) ∙ e in
+        let now : stage_after n (deed x.entry.made.op) ≡ max n (2 * k) = ap (stage_after n) d in
         let grows = stage_grows (stage_after n (deed x.entry.made.op)) xs in omega arith
     at_place n (x ∷ xs) (suc j) h = at_place (stage_after n (deed x.entry.made.op)) xs j h
 
@@ -115,10 +126,38 @@ pending_more v gate n m c k is below own may p = ⊎_elim
     ))
     p
 
+-- a managed entry more shows of no cycle that it is over
+not_over_more : (whole : List Item) (x : Item) (own : List KeptEntry) (k : ℕ) → of_line 0 (whole ++ x ∷ []) ≡ of_line 0 whole ++ x.kept ∷ [] → x.role ≡ 0
+    → ((i : ℕ) (y : Item) → get_elem? whole i ≡ some y → y.kept.entry.number < x.kept.entry.number) → NotOver whole own k → NotOver (whole ++ x ∷ []) own k
+not_over_more whole x own k line managed below o i y at_i shows = ⊎_elim
+    (λ (t : get_elem? whole i ≡ some y). o i y t (⊎_elim
+    (λ (z : IsLetIn y × (a : KeptEntry) × Stands (of_line 0 whole ++ x.kept ∷ []) a × (deed a.entry.made.op ≡ ends k) × (a.entry.number < y.kept.entry.number)). inl (
+      z.0,
+      z.1,
+      ⊎_elim
+          (λ (st : Stands (of_line 0 whole) z.1). st)
+          (λ (same : x.kept ≡ z.1). let m : x.kept.entry.number ≡ z.1.entry.number = ap (λ (q : KeptEntry). q.entry.number) same in let l = below i y t in let h = z.4 in absurd (omega arith))
+          (stands_cases (of_line 0 whole) x.kept z.1 z.2),
+      z.3,
+      z.4,
+    ))
+    (λ z. inr z)
+    (subst (λ ks. ShowsOver ks y k) line shows)))
+    (λ (same : x ≡ y). let role : y.role ≡ 0 = ap (λ (q : Item). q.role) (sym same) ∙ managed in absurd (⊎_elim (λ z. let r = z.0.0 in omega arith) (λ z. let r = z.2.0 in omega arith) shows))
+    (at_snoc whole x y i at_i)
+
+-- nor does any other to a caller whose entries stand before it
+not_over_other : (whole : List Item) (x : Item) (own : List KeptEntry) (k : ℕ) → of_line 0 (whole ++ x ∷ []) ≡ of_line 0 whole
+    → IsBelow x.kept.entry.number own → NotOver whole own k → NotOver (whole ++ x ∷ []) own k
+not_over_other whole x own k line below o i y at_i shows = ⊎_elim
+    (λ (t : get_elem? whole i ≡ some y). o i y t (subst (λ ks. ShowsOver ks y k) line shows))
+    (λ (same : x ≡ y). subst (λ (q : Item). IsBelow q.kept.entry.number own) same below)
+    (at_snoc whole x y i at_i)
+
 -- a seat that waits goes on waiting
 pub waits_more : (whole : List Item) (gate n : ℕ) (v u : View) (x : Item) → of_line 0 (whole ++ x ∷ []) ≡ of_line 0 whole ++ x.kept ∷ [] → known v 0 ≡ of_line 0 whole → x.kept.entry.number ≡ n
-    → IsBelow n (known v 0) → ((i : ℕ) → IsBelow n (known u i)) → v.holds ≡ gate → MayDo v (deed x.kept.entry.made.op) → Waits whole gate u → Waits (whole ++ x ∷ []) gate u
-waits_more whole gate n v u x line all is below u_below own may w = record {
+    → x.role ≡ 0 → ((i : ℕ) (y : Item) → get_elem? whole i ≡ some y → y.kept.entry.number < x.kept.entry.number) → IsBelow n (known v 0) → ((i : ℕ) → IsBelow n (known u i)) → v.holds ≡ gate → MayDo v (deed x.kept.entry.made.op) → Waits whole gate u → Waits (whole ++ x ∷ []) gate u
+waits_more whole gate n v u x line all is managed items below u_below own may w = record {
   snap = λ l. subst (λ ks. IsSnapped ks u.found ⊎ IsDue gate (stage ks) u.found) (sym line) (inl (⊎_elim
       (λ (t : IsSnapped (of_line 0 whole) u.found). (t.0, stands_more (of_line 0 whole) x.kept t.0 t.1, t.2))
       (λ (t : IsDue gate (stage (of_line 0 whole)) u.found). (
@@ -129,28 +168,35 @@ waits_more whole gate n v u x line all is below u_below own may w = record {
       (w.snap l)));
   unknown = λ l t o. subst (λ ks. Unknown ks (known u (t + 10)) u.found) (sym line)
       (unknown_more n u.found (of_line 0 whole) (known u (t + 10)) x.kept is (subst (IsBelow n) all below) (u_below (t + 10)) (w.unknown l t o));
+  over = λ l t o. not_over_more whole x (known u (t + 10)) u.found line managed items (w.over l t o);
 }
 
-pub waits_same : (whole : List Item) (gate : ℕ) (u : View) (x : Item) → of_line 0 (whole ++ x ∷ []) ≡ of_line 0 whole → Waits whole gate u → Waits (whole ++ x ∷ []) gate u
-waits_same whole gate u x line w = record {
+pub waits_same : (whole : List Item) (gate : ℕ) (u : View) (x : Item) → of_line 0 (whole ++ x ∷ []) ≡ of_line 0 whole → ((i : ℕ) → IsBelow x.kept.entry.number (known u i))
+    → Waits whole gate u → Waits (whole ++ x ∷ []) gate u
+waits_same whole gate u x line below w = record {
   snap = λ l. subst (λ ks. IsSnapped ks u.found ⊎ IsDue gate (stage ks) u.found) (sym line) (w.snap l);
   unknown = λ l t o. subst (λ ks. Unknown ks (known u (t + 10)) u.found) (sym line) (w.unknown l t o);
+  over = λ l t o. not_over_other whole x (known u (t + 10)) u.found line (below (t + 10)) (w.over l t o);
 }
 
 pub waits_not : (whole : List Item) (gate : ℕ) (u : View) → u.found ≡ 0 → Waits whole gate u
-waits_not whole gate u e = record { snap = λ l. absurd (omega arith); unknown = λ l. absurd (omega arith) }
+waits_not whole gate u e = record { snap = λ l. absurd (omega arith); unknown = λ l. absurd (omega arith); over = λ l. absurd (omega arith) }
 
 -- only the views change
 pub waiting_views : (whole : List Item) (gate : ℕ) (vs ws : List View) → Waiting whole gate vs → ((j : ℕ) (v : View) → get_elem? ws j ≡ some v → Waits whole gate v) → Waiting whole gate ws
-waiting_views whole gate vs ws w each = record { snapped = w.snapped; quiet = w.quiet; fits = w.fits; pending = w.pending; each_wait = each }
+waiting_views whole gate vs ws w each = record { snapped = w.snapped; quiet = w.quiet; shut = w.shut; fits = w.fits; pending = w.pending; each_wait = each }
 
 -- an entry that stands in no managed list
 pub waiting_other : (whole : List Item) (gate : ℕ) (vs ws : List View) (x : Item) → of_line 0 (whole ++ x ∷ []) ≡ of_line 0 whole → Waiting whole gate vs → Fits whole x
     → (2 ≤ x.role → (k : ℕ) → SaysPending x.kept.entry.made.reply k → IsPending (of_line 0 whole) gate x.kept.entry.number k)
-    → ((j : ℕ) (v : View) → get_elem? ws j ≡ some v → Waits (whole ++ x ∷ []) gate v) → Waiting (whole ++ x ∷ []) gate ws
-waiting_other whole gate vs ws x line w fit says each = record {
+    → (IsLetIn x → gate ≡ 0) → ((j : ℕ) (v : View) → get_elem? ws j ≡ some v → Waits (whole ++ x ∷ []) gate v) → Waiting (whole ++ x ∷ []) gate ws
+waiting_other whole gate vs ws x line w fit says is_open each = record {
   snapped = subst (λ ks. 0 < gate → 2 * gate ≤ stage ks → IsSnapped ks gate) (sym line) w.snapped;
   quiet = subst (λ ks. 0 < gate → (a b : KeptEntry) → Stands ks a → deed a.entry.made.op ≡ ends gate → Stands ks b → b.entry.number ≤ a.entry.number) (sym line) w.quiet;
+  shut = λ pos i y at_i inside a sa e. ⊎_elim
+      (λ t. w.shut pos i y t inside a (subst (λ ks. Stands ks a) line sa) e)
+      (λ (same : x ≡ y). absurd (let z = is_open (subst IsLetIn (sym same) inside) in omega arith))
+      (at_snoc whole x y i at_i);
   fits = fits_more [] whole x w.fits fit;
   pending = λ i y at_i reader k e. subst (λ ks. IsPending ks gate y.kept.entry.number k) (sym line) (⊎_elim
       (λ t. w.pending i y t reader k e)
@@ -163,13 +209,20 @@ waiting_other whole gate vs ws x line w fit says each = record {
 -- a managed entry
 pub waiting_managed : (whole : List Item) (gate n : ℕ) (vs ws : List View) (v : View) (x : Item) → Fits whole x
     → of_line 0 (whole ++ x ∷ []) ≡ known v 0 ++ x.kept ∷ [] → known v 0 ≡ of_line 0 whole → Waiting whole gate vs
-    → x.role ≡ 0 → x.kept.entry.number ≡ n → IsBelow n (known v 0) → v.holds ≡ gate → MayDo v (deed x.kept.entry.made.op) → IsHeldFor gate (stage (known v 0))
+    → x.role ≡ 0 → x.kept.entry.number ≡ n → ((i : ℕ) (y : Item) → get_elem? whole i ≡ some y → y.kept.entry.number < n) → IsBelow n (known v 0) → v.holds ≡ gate → MayDo v (deed x.kept.entry.made.op) → IsHeldFor gate (stage (known v 0))
     → ((j : ℕ) (v : View) → get_elem? ws j ≡ some v → Waits (whole ++ x ∷ []) gate v) → Waiting (whole ++ x ∷ []) gate ws
-waiting_managed whole gate n vs ws v x fit line all w managed is below own may held each = record {
+waiting_managed whole gate n vs ws v x fit line all w managed is items below own may held each = record {
   snapped = subst (λ ks. 0 < gate → 2 * gate ≤ stage ks → IsSnapped ks gate) (sym line)
       (snapped_more v gate x.kept own may held (subst (λ ks. 0 < gate → 2 * gate ≤ stage ks → IsSnapped ks gate) (sym all) w.snapped));
   quiet = subst (λ ks. 0 < gate → (a b : KeptEntry) → Stands ks a → deed a.entry.made.op ≡ ends gate → Stands ks b → b.entry.number ≤ a.entry.number)
       (sym line) (quiet_more v gate n x.kept is below own may held);
+  shut = λ pos i y at_i inside a sa e. ⊎_elim
+      (λ (t : get_elem? whole i ≡ some y). ⊎_elim
+      (λ (st : Stands (known v 0) a). w.shut pos i y t inside a (subst (λ ks. Stands ks a) all st) e)
+      (λ (same : x.kept ≡ a). let l = items i y t in let m : a.entry.number ≡ n = ap (λ (q : KeptEntry). q.entry.number) (sym same) ∙ is in omega arith)
+      (stands_cases (known v 0) x.kept a (subst (λ ks. Stands ks a) line sa)))
+      (λ (same : x ≡ y). let role : y.role ≡ 0 = ap (λ (q : Item). q.role) (sym same) ∙ managed in absurd (let r = inside.0 in omega arith))
+      (at_snoc whole x y i at_i);
   fits = fits_more [] whole x w.fits fit;
   pending = λ i y at_i reader k e. subst (λ ks. IsPending ks gate y.kept.entry.number k) (sym line) (⊎_elim
       (λ t. pending_more v gate n y.kept.entry.number k x.kept is below own may (subst (λ ks. IsPending ks gate y.kept.entry.number k) (sym all) (w.pending i y t reader k e)))
@@ -184,6 +237,7 @@ pub waiting_closed : (whole : List Item) (k : ℕ) (vs ws : List View) → stage
 waiting_closed whole k vs ws next w each = record {
   snapped = λ pos far. absurd (omega arith);
   quiet = λ pos a b sa e sb. absurd (let l = ended_stage (of_line 0 whole) a k sa e in omega arith);
+  shut = λ pos i y at_i inside a sa e. absurd (let l = ended_stage (of_line 0 whole) a k sa e in omega arith);
   fits = w.fits;
   pending = λ i y at_i reader c e. ⊎_elim (λ t. inl t) (λ t. let a = t.0.0 in let b = t.0.1 in absurd (omega arith)) (w.pending i y at_i reader c e);
   each_wait = each;
@@ -194,6 +248,7 @@ pub waiting_opened : (whole : List Item) (g : ℕ) (vs ws : List View) → stage
 waiting_opened whole g vs ws ended w each = record {
   snapped = λ pos far. absurd (omega arith);
   quiet = λ pos a b sa e sb. absurd (omega arith);
+  shut = λ pos i y at_i inside a sa e. absurd (omega arith);
   fits = w.fits;
   pending = λ i y at_i reader c e. ⊎_elim (λ t. inl t) (λ t. let a = t.0.0 in let b = t.0.1 in absurd (omega arith)) (w.pending i y at_i reader c e);
   each_wait = each;
@@ -201,7 +256,7 @@ waiting_opened whole g vs ws ended w each = record {
 
 -- who waits when the gate is closed or opened waits for a snap that stands
 pub waits_gate : (whole : List Item) (g k : ℕ) (u : View) → (0 < u.found → IsDue g (stage (of_line 0 whole)) u.found → ⊥) → Waits whole g u → Waits whole k u
-waits_gate whole g k u none_due w = record { snap = λ l. ⊎_elim (λ t. inl t) (λ t. absurd (none_due l t)) (w.snap l); unknown = w.unknown }
+waits_gate whole g k u none_due w = record { snap = λ l. ⊎_elim (λ t. inl t) (λ t. absurd (none_due l t)) (w.snap l); unknown = w.unknown; over = w.over }
 
 -- who finds the gate held waits for its cycle
 pub waits_found : (whole : List Item) (gate : ℕ) (vs : List View) (u : View) → Waiting whole gate vs → IsHeldFor gate (stage (of_line 0 whole)) → 0 < gate → u.found ≡ gate → Waits whole gate u
@@ -211,6 +266,13 @@ waits_found whole gate vs u w held pos is = record {
       (λ (near : stage (of_line 0 whole) < 2 * gate). inr (refl, let low = (held.1 pos).0 in omega arith))
       (reached (cases_lt (stage (of_line 0 whole)) (2 * gate))));
   unknown = λ l t o. subst (Unknown (of_line 0 whole) (known u (t + 10))) (sym is) (λ a b sa e sb lt. absurd (let z = w.quiet pos a b sa e sb in omega arith));
+  over = λ l t o. subst (NotOver whole (known u (t + 10))) (sym is) (λ i y at_i shows. absurd (⊎_elim
+      (λ z. let less = w.shut pos i y at_i z.0 z.1 z.2 z.3 in let more = z.4 in omega arith)
+      (λ (z : (l : ℕ) × (gate < l) × FindsHeld y l). let later = z.1 in ⊎_elim
+      (λ (b : IsSnappedBefore (of_line 0 whole) y.kept.entry.number z.0). let far = opened_stage (of_line 0 whole) b.0 z.0 b.1 b.2 in let high = (held.1 pos).1 in omega arith)
+      (λ (b : IsDue gate (stage (of_line 0 whole)) z.0 × IsBelow y.kept.entry.number (of_line 0 whole)). let same = b.0.0 in omega arith)
+      (w.pending i y at_i z.2.0 z.0 z.2.1))
+      shows));
 }
   where
     reached : (stage (of_line 0 whole) < 2 * gate) ⊎ (2 * gate ≤ stage (of_line 0 whole)) → (2 * gate ≤ stage (of_line 0 whole)) ⊎ (stage (of_line 0 whole) < 2 * gate)

@@ -7,3 +7,4 @@ pub mod Rule
 pub mod Tells
 pub mod Facts
 pub mod Replies
+pub mod Gated

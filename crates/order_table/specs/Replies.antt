@@ -19,6 +19,7 @@ use Rattle.order_table.specs.Stages.{IsClosed}
 use Rattle.order_table.specs.Owed.{marked, target, has, pin}
 use Rattle.order_table.specs.Rule.{Item, of_line}
 use Rattle.order_table.specs.Facts.{entries_of}
+use Rattle.order_table.specs.Gated.{IsGated}
 use Rattle.order_table.specs.Owed as lists
 
 -- a note of an entry: what it says is freed was told to `append`, and a `weak` that set its cell was told with the
@@ -60,6 +61,10 @@ RepliesAreRight whole = (ns : List Noted) (cells : List (Option ℕ))
     → (i : ℕ) (x : Item) → get_elem? whole i ≡ some x → 2 ≤ x.role → (s : Managed) → IsStateOf (first_of i whole) s
     → (k : ℕ) → ReadsCell x.kept.entry.made.op k
     → IsReadReply ns cells s i x.kept.entry.made.caller k x.kept.entry.made.reply
+
+-- the reads are such as the gate lets in
+abbrev pub ReadsAreGated : List Item → Type 0
+ReadsAreGated whole = (ns : List Noted) → AreNotes whole ns → IsGated ns
 
 -- the managed state that replays the first of these entries has the pins that their lines leave
 abbrev pub PinsAreReplayed : List Item → Type 0

@@ -19,7 +19,7 @@ use Rattle.order_table.specs.declared.views.KeptEntry.{KeptEntry}
 use Rattle.order_table.specs.declared.views.View.{View}
 use Rattle.joint_machine.specs.HistoryLines.{caller_line}
 use Rattle.order_table.specs.Rows.{at}
-use Rattle.order_table.specs.Stages.{IsClosed, stage, deed, opens, ends}
+use Rattle.order_table.specs.Stages.{IsClosed, Deed, stage, deed, opens, ends, neither}
 use Rattle.order_table.specs.Owed.{IsNumber, marked, target, has, is_freed, says_word, read_of, word_of, pin}
 use Rattle.order_table.specs.Views.{IsInRole, IsNext, known, Owns}
 use Rattle.order_table.specs.Allowed.{SaysPending}
@@ -115,11 +115,40 @@ Unknown ml own k = (a b : KeptEntry) → Stands ml a → deed a.entry.made.op �
 abbrev pub SetsCell : KeptEntry → ℕ → Type 0
 SetsCell k c = (m : ℕ) × (marked k ≡ Some (c, m))
 
--- what a word of a cell says to a caller with these own entries: 0, that it is unset as far as the caller can know; 1,
--- that its target is freed; another, that its target is the object, which isn't freed
+-- a read that was let in: its reply is by a word that it loaded
+abbrev pub IsLetIn : Item → Type 0
+IsLetIn y = (2 ≤ y.role) × (w : ℕ) × (word_of y.kept.entry.made.reply ≡ Some w)
+
+-- a read that found the gate held for the cycle
+abbrev pub FindsHeld : Item → ℕ → Type 0
+FindsHeld y k = (2 ≤ y.role) × SaysPending y.kept.entry.made.reply k
+
+-- a read that shows that the gate isn't held for the cycle any more: it was let in behind the cycle's end, or found the
+-- gate held for a later one
+abbrev pub ShowsOver : List KeptEntry → Item → ℕ → Type 0
+ShowsOver ml y k = (IsLetIn y × (a : KeptEntry) × Stands ml a
+    × (deed a.entry.made.op ≡ ends k) × (a.entry.number < y.kept.entry.number))
+    ⊎ ((l : ℕ) × (k < l) × FindsHeld y l)
+
+-- none of a caller's own entries stands at or after such a read
+abbrev pub NotOver : List Item → List KeptEntry → ℕ → Type 0
+NotOver whole own k = (i : ℕ) (y : Item) → get_elem? whole i ≡ some y
+    → ShowsOver (of_line 0 whole) y k → IsBelow y.kept.entry.number own
+
+-- a cycle is opened where none is, as the next one, and ended where it is open
+abbrev pub Follows : ℕ → Deed → Type 0
+Follows s (opens k) = s + 1 ≡ 2 * k
+Follows s (ends k) = s ≡ 2 * k
+Follows s neither = Unit {0}
+
+-- what a word of a cell says to a caller with these own entries: 0, that it is unset as far as the caller can know, and
+-- that no snap came since it was set; 1, that its target is freed; another, that its target is the object, which isn't
+-- freed
 pub record ReadsWord (ml own : List KeptEntry) (c w : ℕ) : Type 0 where
   pub unknown : w ≡ 0 → (a b : KeptEntry) → Stands ml a → SetsCell a c
       → Stands ml b → a.entry.number < b.entry.number → IsBelow b.entry.number own
+  pub unsnapped : w ≡ 0 → (a b : KeptEntry) (k : ℕ) → Stands ml a → SetsCell a c
+      → Stands ml b → a.entry.number < b.entry.number → deed b.entry.made.op ≡ opens k → ⊥
   pub not_own : w ≡ 0 → (y : KeptEntry) → Stands own y → SetsCell y c → ⊥
   pub alive : w ≡ 0 → (m : ℕ) → target ml c ≡ Some m → is_freed ml m ≡ false
   pub gone : w ≡ 1 → (m : ℕ) × (target ml c ≡ Some m) × (is_freed ml m ≡ true)
@@ -130,8 +159,12 @@ pub record Fits (before : List Item) (x : Item) : Type 0 where
   pub sets : x.role ≡ 0 → (c m : ℕ) → marked x.kept ≡ Some (c, m) → IsNumber m
       × (target (of_line 0 before) c ≡ None) × (is_freed (of_line 0 before) m ≡ false)
   pub others : (x.role ≡ 0 → ⊥) → (marked x.kept ≡ None) × (x.kept.freed ≡ [])
+  pub cycles : x.role ≡ 0 → Follows (stage (of_line 0 before)) (deed x.kept.entry.made.op)
   pub pending : 2 ≤ x.role → (k : ℕ) → SaysPending x.kept.entry.made.reply k
       → Unknown (of_line 0 before) (of_line (caller_line x.kept.entry.made.caller) before) k
+  pub over : 2 ≤ x.role → (k : ℕ) → SaysPending x.kept.entry.made.reply k
+      → NotOver before (of_line (caller_line x.kept.entry.made.caller) before) k
+  pub due : IsLetIn x → (i k : ℕ) (y : Item) → get_elem? before i ≡ some y → FindsHeld y k → IsSnapped (of_line 0 before) k
   pub read : 2 ≤ x.role → (c w : ℕ) → read_of x.kept.entry.made.op ≡ Some c → word_of x.kept.entry.made.reply ≡ Some w
       → IsClosed (of_line 0 before) × ReadsWord (of_line 0 before)
       (of_line (caller_line x.kept.entry.made.caller) before) c w
@@ -153,6 +186,7 @@ EachFits before (x ∷ xs) = Fits before x × EachFits (before ++ x ∷ []) xs
 pub record Waits (whole : List Item) (gate : ℕ) (v : View) : Type 0 where
   pub snap : 0 < v.found → IsSnapped (of_line 0 whole) v.found ⊎ IsDue gate (stage (of_line 0 whole)) v.found
   pub unknown : 0 < v.found → (t : ℕ) → Owns v (t + 10) → Unknown (of_line 0 whole) (known v (t + 10)) v.found
+  pub over : 0 < v.found → (t : ℕ) → Owns v (t + 10) → NotOver whole (known v (t + 10)) v.found
 
 -- what an entry that says a cycle is pending says of the managed list
 abbrev pub IsPending : List KeptEntry → ℕ → ℕ → ℕ → Type 0
@@ -162,6 +196,8 @@ pub record Waiting (whole : List Item) (gate : ℕ) (views : List View) : Type 0
   pub snapped : 0 < gate → 2 * gate ≤ stage (of_line 0 whole) → IsSnapped (of_line 0 whole) gate
   pub quiet : 0 < gate → (a b : KeptEntry) → Stands (of_line 0 whole) a
       → deed a.entry.made.op ≡ ends gate → Stands (of_line 0 whole) b → b.entry.number ≤ a.entry.number
+  pub shut : 0 < gate → (i : ℕ) (y : Item) → get_elem? whole i ≡ some y → IsLetIn y → (a : KeptEntry)
+      → Stands (of_line 0 whole) a → deed a.entry.made.op ≡ ends gate → y.kept.entry.number < a.entry.number
   pub fits : EachFits [] whole
   pub pending : (i : ℕ) (x : Item) → get_elem? whole i ≡ some x → 2 ≤ x.role → (k : ℕ)
       → SaysPending x.kept.entry.made.reply k → IsPending (of_line 0 whole) gate x.kept.entry.number k

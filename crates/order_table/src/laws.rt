@@ -4,7 +4,7 @@ ghost use Rattle.std.specs.Prelude.{List};
 ghost use Rattle.order_table.specs.declared.views.KeptEntry.{KeptEntry};
 ghost use Rattle.order_table.specs.Rule.{AreLinesOfOneHistory};
 ghost use Rattle.order_table.specs.Facts.{RuleKeepsLists, RolesDiffer, CallersDiffer, EntriesTellLines};
-ghost use Rattle.order_table.specs.Replies.{RepliesAreRight, PinsAreReplayed, KeptPinsAreRight};
+ghost use Rattle.order_table.specs.Replies.{KeptPinsAreRight, PinsAreReplayed, ReadsAreGated, RepliesAreRight};
 
 /// Between any two steps, whatever seats were dropped: each line has a whole list, of which each seat knows a beginning
 /// and its one owner all; the numbers in the roles' lists are those below the sequencer word, each once; and a caller's
@@ -27,6 +27,11 @@ pub fn entries_tell_lines()
 /// The replies of the readers in a finished order are those that linked histories allow.
 pub fn replies_are_right()
     ensures law { (lines : List (List KeptEntry)) (w : AreLinesOfOneHistory lines) → RepliesAreRight w.whole }
+{}
+
+/// The reads of a finished order are such as the gate lets in.
+pub fn reads_are_gated()
+    ensures law { (lines : List (List KeptEntry)) (w : AreLinesOfOneHistory lines) → ReadsAreGated w.whole }
 {}
 
 /// The replay of a finished order's entries has, before each entry, the pins that the lines leave.

@@ -58,12 +58,13 @@
 //     open_gate                     once the cycle has ended
 //
 // What readers answer is right, and `finish` says so: `pending` and `unset` by what the reader could know, every other
-// reply by the cells and pins at the entry's own number. Between its entry and its store of a word a seat owes that
-// store, and can neither be cut nor joined. A seat is settled that owes nothing, is outside, and, if it owns the
-// managed list, holds the gate just while a cycle is open.
+// reply by the cells and pins at the entry's own number. No read comes that the gate wouldn't let in (`Gated`).
 //
-// `specs/` read alone tells what is true: Views, Stages and Owed first, then Rule and Allowed, then Tells, Facts and
-// Replies.
+// Between its entry and its store of a word a seat owes that store, and can neither be cut nor joined. A seat is settled
+// that owes nothing, is outside, and, if it owns the managed list, holds the gate just while a cycle is open.
+//
+// `specs/` read alone tells what is true: Views, Stages and Owed first, then Rule and Allowed, then Tells, Facts, Gated
+// and Replies.
 #![tactic(auto)]
 
 mod finished;
@@ -75,8 +76,8 @@ mod views;
 
 pub use finished::Linked;
 pub use laws::{
-    entries_tell_lines, kept_pins_are_right, lines_differ, pins_are_replayed, replies_are_right,
-    rule_keeps_lists,
+    entries_tell_lines, kept_pins_are_right, lines_differ, pins_are_replayed, reads_are_gated,
+    replies_are_right, rule_keeps_lists,
 };
 pub use orders::{Order, Pending, Readers};
 pub use seats::{OrderName, Seat};
