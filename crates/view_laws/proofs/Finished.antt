@@ -47,9 +47,10 @@ use Rattle.order_table.specs.Rule.{Item, RunsFrom, EachFits, AreLinesOfOneHistor
 use Rattle.order_table.specs.Rule as rule
 use Rattle.order_table.specs.Views.{known}
 use Rattle.order_table.proofs.ByNumber.{replies_are_right}
+use Rattle.order_table.proofs.GatedReads.{reads_are_gated}
 use Rattle.order_table.proofs.Lines.{role_in, in_cases}
 use Rattle.order_table.proofs.Wholes.{role_told}
-use Rattle.view_laws.specs.Knowing.{of_kept, of_order, drawn_lines, IsDrawnView, OwnLinesAreMadeByCallers, WholeViewIsLinked}
+use Rattle.view_laws.specs.Knowing.{of_kept, of_order, drawn_lines, IsDrawnView, OwnLinesAreMadeByCallers, WholeViewIsGated, WholeViewIsLinked}
 use Rattle.view_laws.proofs.KnownViews.{whole_kept, line_kept, whole_numbered}
 use Rattle.view_laws.proofs.Ordered.{TellsItem, AllTold, lawful-front, all_ordered}
 use Rattle.view_laws.proofs.StateWords.{SaysState, says-first, says-more}
@@ -329,42 +330,51 @@ own_lines_are_made_by_callers v a w t is =
     entries-of [] = refl
     entries-of (k ∷ ks) = ap (λ l. k.entry ∷ l) (entries-of ks)
 
+-- what is told of a view that knows a whole history, as notes of the history's entries
+module _ (v : View) (a : IsDrawnView v) (w : AreLinesOfOneHistory v.known) where
+  abbrev lines : ℕ → List Kept
+  lines i = of_drawn (drawn_lines v i)
+
+  abbrev past : List Noted
+  past = a.known.past
+
+  abbrev ns : List Noted
+  ns = turned [] past
+
+  numbered : NumberedFrom 0 (entries_kept (whole_kept w.whole))
+  numbered = whole_numbered 0 w.whole w.numbers
+
+  all : AreWhole (whole_kept w.whole) lines
+  all = lines-whole v a w
+
+  back : past ≡ turned [] ns
+  back = sym (turned_twice [] [] past ∙ append-nil past)
+
+  item-told : (x : Item) → Contains w.whole x → IsToldIn past (of_order x.kept)
+  item-told x c =
+      let low = runs-role 0 w.whole x w.numbers c in
+      a.told x.role (of_order x.kept) (Contains-map of_order (known v x.role) x.kept (subst (λ ks. Contains ks x.kept) (sym (w.each x.role (omega (arith, low)))) (item-in w.whole x c)))
+
+  lawful : Lawful (turned [] ns)
+  lawful = subst Lawful back a.known.lawful
+
+  told : AllTold [] w.whole ns
+  told = all-told past w.whole [] ns a.known.lawful back (known_whole_is_history (whole_kept w.whole) lines a.known numbered all).same item-told
+
+  state-said : SaysState (of_line 0 w.whole) past
+  state-said = subst (λ z. SaysState (of_line 0 w.whole) z) (sym back) (says-all [] w.whole [] ns 0 w.numbers w.fits lawful told says-first)
+
+  ordered : AllOrdered (history_of past) (end_of past).managed.managed.cells opening_linkage no_pins ns
+  ordered = all_ordered w.whole (replies_are_right w.whole w.numbers w.fits w.pending) w.numbers w.fits (history_of past) (notes-are w.whole [] ns lawful told) (end_of past).managed.managed.cells
+      (λ c. targets_are_drawn past a.known.lawful c ∙ sym (state-said.cells c)) ns lawful told says-first
+
+  notes : AreNotes w.whole (history_of past)
+  notes = notes-are w.whole [] ns lawful told
+
 pub whole_view_is_linked : WholeViewIsLinked
 whole_view_is_linked h v a w same ended =
-    known_whole_is_linked h (whole_kept w.whole) lines a.known (entries-kept w.whole ∙ sym same) (subst (NumberedFrom 0) (entries-kept w.whole ∙ sym same) numbered) all ordered ended
-  where
-    lines : ℕ → List Kept
-    lines i = of_drawn (drawn_lines v i)
+    known_whole_is_linked h (whole_kept w.whole) (lines v a w) a.known (entries-kept w.whole ∙ sym same) (subst (NumberedFrom 0) (entries-kept w.whole ∙ sym same) (numbered v a w))
+    (all v a w) (ordered v a w) ended
 
-    past : List Noted
-    past = a.known.past
-
-    ns : List Noted
-    ns = turned [] past
-
-    numbered : NumberedFrom 0 (entries_kept (whole_kept w.whole))
-    numbered = whole_numbered 0 w.whole w.numbers
-
-    all : AreWhole (whole_kept w.whole) lines
-    all = lines-whole v a w
-
-    back : past ≡ turned [] ns
-    back = sym (turned_twice [] [] past ∙ append-nil past)
-
-    item-told : (x : Item) → Contains w.whole x → IsToldIn past (of_order x.kept)
-    item-told x c =
-        let low = runs-role 0 w.whole x w.numbers c in
-        a.told x.role (of_order x.kept) (Contains-map of_order (known v x.role) x.kept (subst (λ ks. Contains ks x.kept) (sym (w.each x.role (omega (arith, low)))) (item-in w.whole x c)))
-
-    lawful : Lawful (turned [] ns)
-    lawful = subst Lawful back a.known.lawful
-
-    told : AllTold [] w.whole ns
-    told = all-told past w.whole [] ns a.known.lawful back (known_whole_is_history (whole_kept w.whole) lines a.known numbered all).same item-told
-
-    says : SaysState (of_line 0 w.whole) past
-    says = subst (λ z. SaysState (of_line 0 w.whole) z) (sym back) (says-all [] w.whole [] ns 0 w.numbers w.fits lawful told says-first)
-
-    ordered : AllOrdered (history_of past) (end_of past).managed.managed.cells opening_linkage no_pins ns
-    ordered = all_ordered w.whole (replies_are_right w.whole w.numbers w.fits w.pending) w.numbers w.fits (history_of past) (notes-are w.whole [] ns lawful told) (end_of past).managed.managed.cells
-        (λ c. targets_are_drawn past a.known.lawful c ∙ sym (says.cells c)) ns lawful told says-first
+pub whole_view_is_gated : WholeViewIsGated
+whole_view_is_gated v a w = reads_are_gated w.whole (history_of a.known.past) record { runs = w.numbers; fits = w.fits; notes = notes v a w }

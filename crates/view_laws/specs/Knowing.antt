@@ -22,12 +22,13 @@ use Rattle.known_laws.specs.PastEntries.{TellsPlainly}
 use Rattle.known_laws.specs.Drawn.{KeptDrawn, AreDrawn, DrawnJoin, drawn}
 use Rattle.known_laws.specs.Lists.{made_by}
 use Rattle.known_laws.specs.Pasts.{end_of}
-use Rattle.known_laws.specs.Wholes.{HasEnded, IsLinkedPast}
+use Rattle.known_laws.specs.Wholes.{HasEnded, IsLinkedPast, history_of}
 use Rattle.order_table.specs.declared.views.KeptEntry.{KeptEntry}
 use Rattle.order_table.specs.declared.views.View.{View}
 use Rattle.order_table.specs.Replies.{object_of}
 use Rattle.order_table.specs.Rows.{at}
 use Rattle.order_table.specs.Facts.{entries_of, line_entries}
+use Rattle.order_table.specs.Gated.{IsGated}
 use Rattle.order_table.specs.Rule.{IsBelow, IsHeld, AreLinesOfOneHistory}
 use Rattle.order_table.specs.Tells.{GrowsByEntry, TakesIn, BeginsOneHistory}
 use Rattle.order_table.specs.Owed.{target, is_freed}
@@ -113,6 +114,10 @@ IsDrawnView v = AreDrawn (drawn_lines v)
 abbrev pub WholeViewIsLinked : Type 0
 WholeViewIsLinked = (h : Finished) (v : View) (a : IsDrawnView v) (w : AreLinesOfOneHistory v.known)
     → h.entries ≡ entries_of w.whole → HasEnded h (end_of a.known.past) → IsLinkedPast h a.known.past
+
+-- and its reads are such as the gate lets in
+abbrev pub WholeViewIsGated : Type 0
+WholeViewIsGated = (v : View) (a : IsDrawnView v) → AreLinesOfOneHistory v.known → IsGated (history_of a.known.past)
 
 -- the lists of both sides and of the readers, each at the place of its line: what a view knows of these lines
 pub record AreListsOf (v : View) (lists : List (List Entry)) : Type 0 where

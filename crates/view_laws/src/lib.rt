@@ -8,11 +8,11 @@
 ghost use Rattle.view_laws.specs.ExactReads.{ExactReadsAreReplies};
 ghost use Rattle.view_laws.specs.Knowing.{DrawnViewsGrow, DrawnViewsJoin, FirstIsKnown, OwnLinesAreMadeByCallers};
 ghost use Rattle.view_laws.specs.Knowing.{PinsOfViewsStand, SameIsKnown, TargetsAgree, ViewsGrow, ViewsJoin};
-ghost use Rattle.view_laws.specs.Knowing.{ViewsSayStates, WholeListsAreJoined, WholeListsAreShuffle, WholeViewIsLinked};
+ghost use Rattle.view_laws.specs.Knowing.{ViewsSayStates, WholeListsAreJoined, WholeListsAreShuffle, WholeViewIsGated, WholeViewIsLinked};
 
 /// The first seat knows nothing; a seat that makes an entry which may come, takes another seat in, or gives lines away
 /// knows a past again, with what was drawn too; and a seat that knows the whole of a finished order knows a linked
-/// history.
+/// history, whose reads are such as the gate lets in.
 pub fn views_are_pasts()
     ensures first { FirstIsKnown }
     ensures grow { ViewsGrow }
@@ -21,6 +21,7 @@ pub fn views_are_pasts()
     ensures grow_drawn { DrawnViewsGrow }
     ensures join_drawn { DrawnViewsJoin }
     ensures whole { WholeViewIsLinked }
+    ensures gated { WholeViewIsGated }
 {}
 
 /// Pins that are given by words which the owner of the managed list loaded stand at its past: what they name is live,

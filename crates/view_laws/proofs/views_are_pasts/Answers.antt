@@ -1,6 +1,6 @@
 use Rattle.view_laws.proofs.KnownViews.{first_is_known, views_grow, views_join, same_is_known}
 use Rattle.view_laws.proofs.DrawnViews.{drawn_views_grow, drawn_views_join}
-use Rattle.view_laws.proofs.Finished.{whole_view_is_linked}
+use Rattle.view_laws.proofs.Finished.{whole_view_is_gated, whole_view_is_linked}
 use Rattle.view_laws.proofs.views_are_pasts.Goals as goal
 
 pub returns-clause-first : goal.returns-clause-first
@@ -17,6 +17,9 @@ returns-clause-same c = same_is_known
 
 pub returns-clause-whole : goal.returns-clause-whole
 returns-clause-whole c = whole_view_is_linked
+
+pub returns-clause-gated : goal.returns-clause-gated
+returns-clause-gated c = whole_view_is_gated
 
 pub returns-clause-grow_drawn : goal.returns-clause-grow_drawn
 returns-clause-grow_drawn c = drawn_views_grow
