@@ -43,6 +43,9 @@ use Rattle.order_table.specs.Rule.{AreLinesOfOneHistory as AllKnown}
 use Rattle.order_table.specs.Tells.{TakesIn, BeginsOneHistory}
 use Rattle.order_table.specs.Views.{Owns, OwnsAll}
 use Rattle.view_laws.specs.Knowing.{IsDrawnView}
+use Rattle.order_table.specs.Gated.{IsGated}
+use Rattle.pin_laws.proofs.Pinning.{linked_pins_hold}
+use Rattle.view_laws.proofs.Finished.{whole_view_is_gated}
 use Rattle.view_laws.proofs.Joined.{whole_lists_are_joined}
 use Rattle.joint_history.proofs.GatheredReads.{all_lists_known, gather_reads}
 use Rattle.joint_history.proofs.KnownCallers.{own_line}
@@ -140,11 +143,16 @@ all_rest v l r lists ts g all = record {
 }
 
 -- a history that is linked by a past which ends in both sides' states is finished with these, but for the pins
-finished_with : (h : Finished) (past : List Noted) (l : ManagedReplay) (r : PeerReplay) → IsLinkedPast h past → (end_of past).managed ≡ l
+finished_with : (h : Finished) (past : List Noted) (l : ManagedReplay) (r : PeerReplay) → IsLinkedPast h past → IsGated (history_of past) → (end_of past).managed ≡ l
     → (end_of past).peer ≡ r → managed_numbers h.notices ≡ (end_of past).managed.managed.notices → IsFinishedWith h l r
-finished_with h past l r is managed peer queued = record {
+finished_with h past l r is gated managed peer queued = record {
   noted = history_of past;
-  finished = record { linked = is.linked; queued = queued ∙ ap (λ (x : Linkage). x.managed.managed.notices) (sym is.ends) };
+  finished = record {
+    linked = is.linked;
+    queued = queued ∙ ap (λ (x : Linkage). x.managed.managed.notices) (sym is.ends);
+    gated = gated;
+    pinned = linked_pins_hold h (history_of past) is.linked;
+  };
   pins = is.pins;
   managed = ap (λ (x : Linkage). x.managed) is.ends ∙ ap (λ m. with_pins m is.pins) managed;
   peer = ap (λ (x : Linkage). x.peer) is.ends ∙ peer;
@@ -175,7 +183,7 @@ all_gathered v l r lists ts g all w freed_managed freed_peers notices fm fp ns =
     record {
       joinable = j.joinable;
       finished = λ h sh a b c. let is = j.linked h sh a b c in
-          (finished_with h g.known.known.past l.state r.state is.0 g.managed g.peer (ap managed_numbers c ∙ queued), is.1);
+          (finished_with h g.known.known.past l.state r.state is.0 (whole_view_is_gated v g.known w) g.managed g.peer (ap managed_numbers c ∙ queued), is.1);
       linked = λ h sh a b c. (j.linked h sh a b c).0;
     }
 

@@ -19,7 +19,9 @@ use Rattle.known_laws.specs.Growing.{all_shown}
 use Rattle.known_laws.specs.Lists.{made_by}
 use Rattle.known_laws.specs.Pasts.{Lawful, end_of, line}
 use Rattle.known_laws.specs.Wholes.{history_of}
+use Rattle.pin_laws.specs.Pins.{PinsHold}
 use Rattle.order_table.specs.declared.views.View.{View}
+use Rattle.order_table.specs.Gated.{IsGated}
 use Rattle.order_table.specs.Rule.{AreLinesOfOneHistory}
 use Rattle.order_table.specs.Views.{Owns, known}
 use Rattle.joint_machine.specs.Lines.{IsDriver, IsThread}
@@ -118,10 +120,13 @@ pub record IsKnownHistory (callers : List Pass) (h : Finished) : Type 0 where
   pub linked : IsLinkedBy h (history_of past)
   pub begins : All (BeginsPast past) callers
 
--- a history is linked by these notes, and its list of notices is all that was ever queued
+-- a history is linked by these notes, its list of notices is all that was ever queued, its reads are such as the gate
+-- lets in, and what a read gave to a thread stays in its pin, unfreed, up to that thread's next `take`
 pub record IsFinishedBy (h : Finished) (noted : List Noted) : Type 0 where
   pub linked : IsLinkedBy h noted
   pub queued : HasQueued h noted
+  pub gated : IsGated noted
+  pub pinned : PinsHold noted
 
 -- so it is by some notes
 pub record IsFinished (h : Finished) : Type 0 where
