@@ -5,7 +5,7 @@ use Rattle.joint_machine.specs.Histories.{Finished}
 use Rattle.joint_machine.specs.LinkedHistories.{managed_end}
 use Rattle.joint_laws.specs.ReadingLaws.{IsLawfulReading}
 use Rattle.joint_laws.proofs.ReadsAside.{linked_is_complete}
-use Rattle.joint_laws.proofs.ReadingsGoneAfter.{lock_free_reads_are_gone, weak_reads_are_gone_reading, none_is_mirrored_reading}
+use Rattle.joint_laws.proofs.ReadingsGoneAfter.{weak_reads_are_gone_reading, none_is_mirrored_reading}
 use Rattle.joint_history.specs.Ending.{IsFinished}
 use Rattle.script_laws.specs.Closing.{AllCyclesClose}
 use Rattle.script_laws.proofs.Asides.{exact_asides_are_replies}
@@ -15,7 +15,10 @@ use Rattle.script_laws.proofs.OneText.{one-text}
 use Rattle.script_laws.proofs.ReadCycles.{linked-end}
 use Rattle.script_laws.proofs.ThreadEnding.{thread_history_ends}
 use Rattle.run_laws.specs.Final.{IsBridgeRun}
-use Rattle.run_laws.specs.FinalLaws.{HeldByThreadsIsRun, HeldInOrderIsRun}
+use Rattle.run_laws.proofs.FreedReads.{freed_reads_are_gone}
+use Rattle.run_laws.proofs.HeldPeers.{every_reading_run_keeps_held_peers}
+use Rattle.run_laws.proofs.SparedRuns.{every_reading_run_spares_reached}
+use Rattle.run_laws.specs.FinalLaws.{HeldByThreadsIsRun, HeldInOrderIsRun, RunsInOrderAreOne}
 
 -- a finished history that closes each cycle is a run's
 abbrev pub kept : (h : Finished) (w : IsFinished h) → length h.entries < 2 ^ 64 → AllCyclesClose h.entries → IsBridgeRun h w.noted
@@ -30,7 +33,11 @@ kept h w few ends =
       run = run.1;
       sound = run.2;
       complete = run.3;
-      reads_gone = lock_free_reads_are_gone w.noted lawful;
+      held_peers = every_reading_run_keeps_held_peers w.noted run.0 lawful run.1;
+      spares = every_reading_run_spares_reached w.noted run.0 lawful run.1;
+      gated = w.finished.gated;
+      pinned = w.finished.pinned;
+      reads_gone = freed_reads_are_gone h w.noted w.finished.linked;
       peers_gone = weak_reads_are_gone_reading w.noted lawful;
       cleared = none_is_mirrored_reading w.noted lawful;
       named = λ other theirs same. one-text other h theirs (record { noted = w.noted; linked = w.finished.linked }) few same;
@@ -54,3 +61,6 @@ held_by_threads_is_run script h w few lines waits = record {
   lines = lines;
   waits = waits;
 }
+
+pub runs_in_order_are_one : RunsInOrderAreOne
+runs_in_order_are_one script g h a b = (b.only g record { noted = a.noted; linked = a.kept.linked } a.exact a.lines).whole a.kept.queued b.kept.queued

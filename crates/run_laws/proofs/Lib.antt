@@ -1,3 +1,6 @@
+pub mod FreedReads
+pub mod HeldPeers
+pub mod SparedRuns
 pub mod Lining
 pub mod Answering
 pub mod ByThreads

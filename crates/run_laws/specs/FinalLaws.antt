@@ -1,5 +1,5 @@
 -- That a linked history which holds a script's lines is the history of its run.
-use Rattle.std.specs.Prelude.{◌<◌, ◌^◌, List, length}
+use Rattle.std.specs.Prelude.{◌≡◌, ◌<◌, ◌^◌, List, length}
 use Rattle.joint_machine.specs.declared.names.Thread.{Thread}
 use Rattle.joint_machine.specs.declared.lines.Act.{Act}
 use Rattle.joint_machine.specs.Histories.{Finished}
@@ -19,3 +19,7 @@ HeldInOrderIsRun = (script : List (Thread × Act)) (h : Finished) → IsFinished
 abbrev pub HeldByThreadsIsRun : Type 0
 HeldByThreadsIsRun = (script : List (Thread × Act)) (h : Finished) → IsFinished h
     → length h.entries < 2 ^ 64 → HoldsPerThread script h.entries → WaitsEnd h.entries → IsRunByThreads script h
+
+-- a script has one run in order, so what is written of it is a function of the script
+abbrev pub RunsInOrderAreOne : Type 0
+RunsInOrderAreOne = (script : List (Thread × Act)) (g h : Finished) → IsRunInOrder script g → IsRunInOrder script h → g ≡ h

@@ -1,3 +1,4 @@
+pub mod PeersKept
 pub mod Serial
 pub mod Lines
 pub mod Threads

@@ -1,6 +1,6 @@
 // Laws on the runs of scripts, each the contract of a function that does nothing.
 
-ghost use Rattle.run_laws.specs.FinalLaws.{HeldByThreadsIsRun, HeldInOrderIsRun};
+ghost use Rattle.run_laws.specs.FinalLaws.{HeldByThreadsIsRun, HeldInOrderIsRun, RunsInOrderAreOne};
 ghost use Rattle.run_laws.specs.LastCycle.{CycleLinesEndRuns, CyclesEndRuns};
 ghost use Rattle.run_laws.specs.Lines.{OperationsAreAnswered, OperationsAreLines, OthersKeepStanding};
 ghost use Rattle.run_laws.specs.Serial.{AllAreGiven, DriverRunsOn, DriversAdd, NothingIsRun, OthersRunOn};
@@ -47,6 +47,7 @@ pub fn runs_hold_scripts()
 /// line order the only one, and thread by thread one of those that can be.
 pub fn held_scripts_are_runs()
     ensures in_order { HeldInOrderIsRun }
+    ensures one { RunsInOrderAreOne }
     ensures by_threads { HeldByThreadsIsRun }
 {}
 
