@@ -9,7 +9,7 @@
 // An arrow of a field, of a box, and of a handle that a managed object holds counts: over these the joint machine
 // reaches what it reaches. A weak global reference and the references that a cycle adds are drawn, and don't count.
 //
-// A picture is its maker's own. What is promised: it is `picture_of` of `specs/Pictures.antt`, a function of what there
+// A picture is its maker's own. What is promised: it is `drawing_of` of `specs/Drawing.antt`, a function of what there
 // is to see; `picture_laws` says what is so of it.
 #![tactic(auto)]
 
