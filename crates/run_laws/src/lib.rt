@@ -15,8 +15,8 @@
 // - a cycle that the driver runs once all threads have ended, and it has heard of what each made, stands behind all
 //   else.
 //
-// A law is a function with an empty body, whose clauses are statements of `specs/`; `script_runs` calls it where a run
-// has come so far. So no value is made here, and nothing runs.
+// A law is a function with an empty body, whose clauses are statements of `specs/`; proofs of `script_runs` cite them.
+// So no value is made here, and nothing runs.
 //
 // `specs/` read alone tells what is true: Serial first, then Lines and Threads, then Final, which says what a finished
 // run's history is, and last LastCycle.
