@@ -6,3 +6,5 @@ mod Places
 mod FreeingOne
 mod GapExamples
 mod Unsound
+mod WithPeers
+mod Shown

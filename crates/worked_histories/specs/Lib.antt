@@ -32,3 +32,5 @@ pub mod Gaps
 pub mod Refused
 pub mod RareAnswers
 pub mod Unsound
+pub mod WithPeers
+pub mod Shown

@@ -47,7 +47,8 @@ pub use readings::{
     own_cell_is_set, pending_reads_by_readers, pending_reads_end, pinned_reads_by_readers,
 };
 pub use refused::{
-    early_freeing_is_unsound, left_garbage_is_incomplete, unlawful_entries_are_refused,
+    broken_cycle_is_incomplete, early_freeing_is_unsound, freeing_without_its_sweep_is_unsound,
+    left_garbage_is_incomplete, taken_and_freed_are_shown, unlawful_entries_are_refused,
 };
 pub use runs::{
     cycle_across_both_heaps_run, disposed_and_surfaced_object_run, field_emptied_in_a_marking_run,
