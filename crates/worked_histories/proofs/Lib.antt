@@ -2,7 +2,7 @@ mod Worked
 mod SideLists
 mod Examples
 mod PairGraphs
-mod Places
+pub mod Places
 mod FreeingOne
 mod GapExamples
 mod Unsound

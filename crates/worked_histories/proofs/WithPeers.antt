@@ -18,9 +18,10 @@ use Rattle.joint_machine.proofs.Members.{Contains-nil}
 use Rattle.computed_histories.proofs.GraphTests.{joint_reached}
 use Rattle.computed_histories.proofs.Reaching.{member}
 use Rattle.computed_histories.proofs.Telling.{refuted, same}
+use Rattle.worked_histories.specs.Notes.{span}
 use Rattle.worked_histories.specs.Unsound.{begins_one, closed, object_named, peer_named, resolves_none, resolves_two, snaps_nothing, sweeps_none, sweeps_two}
-use Rattle.worked_histories.specs.WithPeers.{at, another_swept, begins_by_peer, begun_late, made_between, named_at_begin, named_before_sweep, paired, peer_named_at_begin, snaps_second}
-use Rattle.worked_histories.specs.WithPeers.{sweeps_one, sweeps_second, swept_late, turns, unswept, AreUnsoundWithPeers, AreIncompleteCycles}
+use Rattle.worked_histories.specs.WithPeers.{at, another_swept, begins_by_peer, begun_behind, begun_late, made_between, named_at_begin, named_before_sweep, paired, peer_named_at_begin, snaps_second}
+use Rattle.worked_histories.specs.WithPeers.{sweeps_one, sweeps_second, swept_late, turns, unbegun, unswept, AreUnsoundWithPeers, AreIncompleteCycles}
 use Rattle.worked_histories.proofs.FreeingOne.{is_sweep, is_snap, swept_marking}
 use Rattle.worked_histories.proofs.Places.{only_at, place}
 
@@ -92,6 +93,10 @@ none_below : (n : ℕ) → n < 1 → n ≡ 0
 none_below zero l = refl
 none_below (suc n) l = absurd (omega (arith, l))
 
+-- peer 2 is swept there
+sweeps_there : (run : List Moment) (i : ℕ) → slice_get run i ≡ Some (at closed sweeps_two) → SweepsAt run i 1 (2 ∷ [])
+sweeps_there run i e = record { element = at closed sweeps_two; there = e; is = (refl, span 0 1, refl, refl) }
+
 pub unsound : AreUnsoundWithPeers
 unsound = record {
   frees = λ s. let w = swept another_swept 2 refl s in
@@ -114,6 +119,8 @@ unsound = record {
         | inl e ↦ subst (λ i. IsUnreachedAt peer_named_at_begin i (peer 2)) e w.itself.at_begin (at peer_named begins_one) refl peer-reached
         | inr e ↦ subst (λ i. IsUnreachedAt peer_named_at_begin i (object 2)) e w.row.at_begin (at object_named begins_one) refl object-reached
       ];
+  begun = λ s. let w = s.peers 1 1 2 (2 ∷ []) (sweeps_there unbegun 1 refl) two in let far = begin_place unbegun 1 w.0 1 refl w.2 in absurd (omega (arith, far, w.1));
+  begun_before = λ s. let w = s.peers 0 1 2 (2 ∷ []) (sweeps_there begun_behind 0 refl) two in absurd (omega (arith, w.1));
 }
 
 -- what the resolution of cycle 1 at a place asks for

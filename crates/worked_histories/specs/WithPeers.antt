@@ -72,6 +72,13 @@ abbrev pub peer_named_at_begin : List Moment
 peer_named_at_begin = at peer_named begins_one ∷ at object_named begins_one
     ∷ at paired sweeps_two ∷ at paired resolves_two ∷ []
 
+-- peer 2 is freed: no marking was begun before, or one is begun behind the sweep alone
+abbrev pub unbegun : List Moment
+unbegun = at closed snaps_nothing ∷ at closed sweeps_two ∷ []
+
+abbrev pub begun_behind : List Moment
+begun_behind = at closed sweeps_two ∷ at closed begins_one ∷ []
+
 -- none of these runs is sound
 pub record AreUnsoundWithPeers : Type 0 where
   pub frees : IsSoundRun another_swept → ⊥
@@ -81,6 +88,8 @@ pub record AreUnsoundWithPeers : Type 0 where
   pub row_before_sweep : IsSoundRun named_before_sweep → ⊥
   pub in_order : IsSoundRun begun_late → ⊥
   pub itself : IsSoundRun peer_named_at_begin → ⊥
+  pub begun : IsSoundRun unbegun → ⊥
+  pub begun_before : IsSoundRun begun_behind → ⊥
 
 -- a cycle over a state in which nothing was made: these four entries in turn
 abbrev pub turns : Noted → Noted → Noted → Noted → List Moment

@@ -20,7 +20,8 @@ pub fn left_garbage_is_incomplete()
 
 /// Nor one in which a candidate that held a handle is freed, and its peer's sweep frees another peer, isn't there, or
 /// comes later; or in which a variable names it at the begin of the marking or just before the sweep; or it is unreached
-/// at a begin that comes after the sweep alone, or at which its peer is reached.
+/// at a begin that comes after the sweep alone, or at which its peer is reached. Nor one whose sweep has no begin before
+/// it.
 pub fn freeing_without_its_sweep_is_unsound()
     ensures { AreUnsoundWithPeers }
 {}
