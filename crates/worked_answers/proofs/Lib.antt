@@ -1,0 +1,4 @@
+mod StreamsTold
+mod LogsTold
+mod ListingsTold
+mod ThreadsTold

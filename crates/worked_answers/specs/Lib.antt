@@ -1,0 +1,4 @@
+pub mod Streams
+pub mod Logs
+pub mod Listings
+pub mod Threads
