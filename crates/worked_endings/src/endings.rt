@@ -1,9 +1,9 @@
 // What a history may not end with, and what may not be read in it.
 
-ghost use Rattle.worked_endings.specs.Endings.{AreCyclesRefused, AreReadsRefused};
+ghost use Rattle.worked_endings.specs.Endings.{AreCyclesRefused, AreReadsRefused, AreWaitsRefused};
 
-/// A read answers an object that a resolution has freed, or a pin that isn't filled; a weak read answers a peer that a
-/// sweep has freed.
+/// A read, also one that waits, answers an object that a resolution has freed, or a pin that isn't filled; a weak read
+/// answers a peer that a sweep has freed.
 pub fn reads_of_the_freed_are_refused()
     ensures { AreReadsRefused }
 {}
@@ -12,4 +12,9 @@ pub fn reads_of_the_freed_are_refused()
 /// comes in place of its own.
 pub fn abandoned_and_open_cycles_are_refused()
     ensures { AreCyclesRefused }
+{}
+
+/// A read that waits answers that it is pending, whatever its cell and the cycle.
+pub fn waits_without_an_end_are_refused()
+    ensures { AreWaitsRefused }
 {}

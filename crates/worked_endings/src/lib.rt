@@ -9,4 +9,7 @@
 
 mod endings;
 
-pub use endings::{abandoned_and_open_cycles_are_refused, reads_of_the_freed_are_refused};
+pub use endings::{
+    abandoned_and_open_cycles_are_refused, reads_of_the_freed_are_refused,
+    waits_without_an_end_are_refused,
+};
