@@ -1,4 +1,5 @@
 mod StreamsTold
 mod LogsTold
+mod ReportsTold
 mod ListingsTold
 mod ThreadsTold

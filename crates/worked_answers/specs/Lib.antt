@@ -1,4 +1,5 @@
 pub mod Streams
 pub mod Logs
+pub mod Reports
 pub mod Listings
 pub mod Threads
