@@ -12,7 +12,7 @@ use Rattle.joint_machine.specs.declared.names.Cycle.{Cycle}
 use Rattle.joint_machine.specs.declared.events.Entry.{Entry}
 use Rattle.joint_machine.specs.declared.events.Op.TheVariants as op
 use Rattle.joint_machine.specs.Told.{Noted, nothing}
-use Rattle.joint_machine.specs.Readers.{is_aside, ReadsCell}
+use Rattle.joint_machine.specs.Readers.{ReadsCell}
 use Rattle.joint_laws.specs.Afterwards.{IsGoneAfter, ReadsObject, ReadsPeer, ResolveFrees, SweepFrees, reading_at}
 use Rattle.run_laws.specs.Final.{FreedReadsAreGone}
 use Rattle.joint_machine.proofs.Members.{Contains-nil, Contains-here, Contains-there, Contains-cons_cases}
@@ -37,9 +37,9 @@ module _ (a : Act) (of_cell : ReadsCell (op.Line a) 0) (reply : Reply) where
   reads_it : ReadsObject (reading_at (read_after a reply) 3).managed.managed read 1
   reads_it = record { cell = 0; reads = of_cell; target = refl }
 
-  -- a read that isn't set aside and has none of the allowed replies
-  refused : (is_aside read ≡ true → ⊥) → (IsGoneAfter (reading_at (read_after a reply) 3).managed.managed (M 1) 1 reply → ⊥) → FreedReadsAreGone (read_after a reply) → ⊥
-  refused aside allowed f = elim (f 2 3 1 1 read freed (omega arith) refl reads_it) [ inl a ↦ aside a | inr w ↦ allowed w ]
+  -- a read that has none of the allowed replies
+  refused : ((c : Cycle) → reply ≡ says.Pending c → ⊥) → (IsGoneAfter (reading_at (read_after a reply) 3).managed.managed (M 1) 1 reply → ⊥) → FreedReadsAreGone (read_after a reply) → ⊥
+  refused pending allowed f = elim (f 2 3 1 1 read freed (omega arith) refl reads_it) [ inl p ↦ pending p.0 p.1 | inr w ↦ allowed w ]
 
 module _ (reply : Reply) where
   abbrev weak_read : Noted
@@ -53,10 +53,11 @@ module _ (reply : Reply) where
 
 pub reads_refused : AreReadsRefused
 reads_refused = record {
-  object = refused reads refl (says.M (object_no 1)) (λ a. cc) (λ w. elim w [ inl g ↦ cc | inr (inl p) ↦ (let e = p.2 in cc) | inr (inr l) ↦ (let e = l.3 in cc) ]);
-  awaited = refused waits refl (says.M (object_no 1)) (λ a. cc) (λ w. elim w [ inl g ↦ cc | inr (inl p) ↦ (let e = p.2 in cc) | inr (inr l) ↦ (let e = l.3 in cc) ]);
-  unfilled_pin = refused reads refl (says.Pinned (object_no 1)) (λ a. cc) (λ w. elim w [ inl g ↦ cc | inr (inl p) ↦ (let e = p.1 in cc) | inr (inr l) ↦ (let e = l.3 in cc) ]);
-  empty = refused reads refl says.Empty (λ a. cc) (λ w. elim w [ inl g ↦ cc | inr (inl p) ↦ (let e = p.2 in cc) | inr (inr l) ↦ (let e = l.3 in cc) ]);
+  object = refused reads refl (says.M (object_no 1)) (λ c e. cc) (λ w. elim w [ inl g ↦ cc | inr (inl p) ↦ (let e = p.2 in cc) | inr (inr l) ↦ (let e = l.3 in cc) ]);
+  awaited = refused waits refl (says.M (object_no 1)) (λ c e. cc) (λ w. elim w [ inl g ↦ cc | inr (inl p) ↦ (let e = p.2 in cc) | inr (inr l) ↦ (let e = l.3 in cc) ]);
+  unset = refused reads refl says.Unset (λ c e. cc) (λ w. elim w [ inl g ↦ cc | inr (inl p) ↦ (let e = p.2 in cc) | inr (inr l) ↦ (let e = l.3 in cc) ]);
+  unfilled_pin = refused reads refl (says.Pinned (object_no 1)) (λ c e. cc) (λ w. elim w [ inl g ↦ cc | inr (inl p) ↦ (let e = p.1 in cc) | inr (inr l) ↦ (let e = l.3 in cc) ]);
+  empty = refused reads refl says.Empty (λ c e. cc) (λ w. elim w [ inl g ↦ cc | inr (inl p) ↦ (let e = p.2 in cc) | inr (inr l) ↦ (let e = l.3 in cc) ]);
   peer = λ f. let e = f 2 3 1 (weak_read (says.P (peer_no 1))) (swept (says.P (peer_no 1))) (omega arith) refl (reads_weakly (says.P (peer_no 1))) in cc;
   unset_name = λ f. let e = f 2 3 1 (weak_read says.Unset) (swept says.Unset) (omega arith) refl (reads_weakly says.Unset) in cc;
 }

@@ -41,11 +41,12 @@ weakly_read_after reply =
     ∷ note 3 (P 1) 4 (op.Line (act.WRead (var 1) (name_no 0))) reply None nothing
     ∷ []
 
--- a read of a freed object, also one that waits, answers neither the object, nor a pin that isn't filled, nor that a variable is empty; a
+-- a read of a freed object, also one that waits, answers neither the object, nor unset, nor a pin that isn't filled, nor that a variable is empty; a
 -- weak read of a freed peer answers neither the peer nor that its name is unset
 pub record AreReadsRefused : Type 0 where
   pub object : FreedReadsAreGone (read_after reads (says.M (object_no 1))) → ⊥
   pub awaited : FreedReadsAreGone (read_after waits (says.M (object_no 1))) → ⊥
+  pub unset : FreedReadsAreGone (read_after reads says.Unset) → ⊥
   pub unfilled_pin : FreedReadsAreGone (read_after reads (says.Pinned (object_no 1))) → ⊥
   pub empty : FreedReadsAreGone (read_after reads says.Empty) → ⊥
   pub peer : FreedPeersAreGone (weakly_read_after (says.P (peer_no 1))) → ⊥

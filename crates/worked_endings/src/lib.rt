@@ -8,8 +8,10 @@
 #![tactic(auto)]
 
 mod endings;
+mod gates;
 
 pub use endings::{
     abandoned_and_open_cycles_are_refused, reads_of_the_freed_are_refused,
     waits_without_an_end_are_refused,
 };
+pub use gates::{freed_pins_are_refused, reads_past_the_gate_are_refused};
