@@ -1,5 +1,5 @@
-// Endings that the headline refuses: the definitions of what holds afterwards, computed on short lists of entries that
-// break them.
+// Endings that the headline refuses: the definitions of what holds afterwards, and of which peers stay, computed on
+// short lists of entries and on runs that break them.
 //
 // Each function is a law about those definitions: its body is empty, and its contract is a statement of `specs/`. No
 // machine has these lists; they stand here so that a definition which let one pass would be found. That no mirrored
@@ -11,7 +11,7 @@ mod endings;
 mod gates;
 
 pub use endings::{
-    abandoned_and_open_cycles_are_refused, reads_of_the_freed_are_refused,
-    waits_without_an_end_are_refused,
+    abandoned_and_open_cycles_are_refused, freed_peers_of_the_living_are_refused,
+    reads_of_the_freed_are_refused, waits_without_an_end_are_refused,
 };
 pub use gates::{freed_pins_are_refused, reads_past_the_gate_are_refused};
