@@ -1,9 +1,10 @@
 // Measures the component analysis over an edge list from standard input, by either of the two passes. With the word
 // `time` it prints the numbers of components and pairs, and the milliseconds of the analysis alone; with the word
 // `dump` a line `scc LIST` for each component and a line `xref A B` for each pair, in their order. With `second` behind
-// it the second pass does it, and `component_pass` without. Any other words are answered by the usage line and status
-// 1, a bad edge list by what is wrong with it and status 2, and a graph of which too much would have to be numbered by
-// status 3.
+// it the second pass does it, and `component_pass` without. Other words are answered with what is wrong, the forms and
+// an example, and status 1; a bad edge list with its first wrong line and what is wrong with it, and status 2; a graph
+// of which too much would have to be numbered by status 3. All these stand on standard output. A stream that fails, and
+// want of memory, are told on standard error, with status 4.
 //
 //     contract_tool dump < examples/crossed_cycle.graph
 //     contract_tool dump second < examples/crossed_cycle.graph
@@ -46,31 +47,76 @@ enum Pass {
     Second,
 }
 
-fn main(rt: HostRuntime) -> io::Result<ExitCode> {
-    let Some((kind, pass)) = asked_for(env::args(&rt)?) else {
-        eprintln!(rt; "usage: contract_tool time|dump [second] < LIST")?;
-        return Ok(ExitCode::from(1));
+const USAGE: &'static str = "usage: contract_tool time|dump [second] < LIST
+  time    prints the numbers of components and pairs, and the milliseconds of the analysis
+  dump    prints a line for each component, with its bridge nodes, and for each pair
+  second  takes the second pass in place of the first
+  LIST    a line with the numbers of nodes and edges, a line b (bridge) or p (plain) for each node, and a line with two
+          nodes, counted from 0, for each edge
+example: printf '2 1\nb\nb\n0 1\n' | contract_tool dump";
+
+// What was written of what was asked for.
+const DONE: u8 = 0;
+
+const USED_WRONGLY: u8 = 1;
+
+const BAD_LIST: u8 = 2;
+
+const TOO_MANY: u8 = 3;
+
+const STOPPED: u8 = 4;
+
+fn main(rt: HostRuntime) -> ExitCode {
+    match run(&rt) {
+        Ok(status) => ExitCode::from(status),
+        Err(error) => {
+            let _ = eprintln!(rt;
+                "contract_tool: stopped, since a stream failed or there is no memory: {error}"
+            );
+            ExitCode::from(STOPPED)
+        }
+    }
+}
+
+// Does what the words ask for, and answers the exit status.
+fn run(rt: &HostRuntime) -> io::Result<u8> {
+    let (kind, pass) = match asked_for(env::args(rt)?) {
+        Ok(asked) => asked,
+        Err(what) => {
+            println!(rt; "contract_tool: {what}\n{USAGE}")?;
+            return Ok(USED_WRONGLY);
+        }
     };
     let text = io::read_to_string(rt.alloc(), rt.reader())?;
     let graph = match read_list(rt.alloc(), text.as_str()) {
         Ok(graph) => graph,
-        Err(cause) => {
-            eprintln!(rt; "bad edge list: {}", what(cause))?;
-            return Ok(ExitCode::from(2));
+        Err(fault) => {
+            println!(rt; "line {}: {}", fault.line, what(fault.cause))?;
+            return Ok(BAD_LIST);
         }
     };
-    let start = Instant::now(&rt)?;
-    let components = match components_of(rt.alloc(), &graph, pass) {
+    print_components(rt, &graph, kind, pass)
+}
+
+// Prints what a pass finds, and answers the exit status.
+fn print_components(
+    rt: &HostRuntime,
+    graph: &DeadGraph,
+    kind: OutputKind,
+    pass: Pass,
+) -> io::Result<u8> {
+    let start = Instant::now(rt)?;
+    let components = match components_of(rt.alloc(), graph, pass) {
         Ok(components) => components,
         Err(ListingFault::Memory) => return Err(io::Error::from(AllocError)),
         Err(ListingFault::TooMany) => {
-            eprintln!(rt; "too much to be numbered in 32 bits")?;
-            return Ok(ExitCode::from(3));
+            println!(rt; "too much to be numbered in 32 bits")?;
+            return Ok(TOO_MANY);
         }
     };
-    let spent = start.elapsed(&rt)?;
+    let spent = start.elapsed(rt)?;
     match kind {
-        OutputKind::Dump => write_all(BufWriter::new(rt.alloc(), io::writer(&rt))?, &components)?,
+        OutputKind::Dump => write_all(BufWriter::new(rt.alloc(), io::writer(rt))?, &components)?,
         OutputKind::Time => {
             let micros = u64::try_from(spent.as_micros()).unwrap_or(u64::MAX);
             println!(rt;
@@ -82,24 +128,27 @@ fn main(rt: HostRuntime) -> io::Result<ExitCode> {
             )?;
         }
     }
-    Ok(ExitCode::SUCCESS)
+    Ok(DONE)
 }
 
-// What the words ask for; None where they are no command.
-fn asked_for(words: Args) -> Option<(OutputKind, Pass)> {
+// What the words ask for, or what is wrong with them.
+fn asked_for(words: Args) -> Result<(OutputKind, Pass), &'static str> {
     let mut words = words.skip(1);
-    let kind = match words.next()?.as_str() {
+    let kind = match words.next().ok_or("there is no word")?.as_str() {
         "time" => OutputKind::Time,
         "dump" => OutputKind::Dump,
-        _ => return None,
+        _ => return Err("the first word is neither time nor dump"),
     };
     let Some(word) = words.next() else {
-        return Some((kind, Pass::First));
+        return Ok((kind, Pass::First));
     };
-    if word.as_str() == "second" && words.next().is_none() {
-        return Some((kind, Pass::Second));
+    if word.as_str() != "second" {
+        return Err("the second word isn't second");
     }
-    None
+    if words.next().is_some() {
+        return Err("there are more than two words");
+    }
+    Ok((kind, Pass::Second))
 }
 
 // The components of a graph, as the pass finds them.

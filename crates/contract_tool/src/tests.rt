@@ -1,6 +1,6 @@
 // Worked examples, as they are printed.
 
-use crate::list::read_list;
+use crate::list::{Cause, read_list};
 use crate::write_all;
 use compare_pass::second_pass;
 use component_pass::contract;
@@ -88,5 +88,34 @@ fn a_heavy_class_has_a_temporary(rt: HostRuntime) -> Result<(), Fail> {
     let (from, to) = found.mirror_edge(0);
     assert!(rt; from == End::Node(0));
     assert!(rt; to == End::Temp(23));
+    Ok(())
+}
+
+// Edge lists with a mistake: its line, and what it is.
+const MISTAKES: [(&'static str, u64, Cause); 9] = [
+    ("", 1, Cause::End),
+    ("2\n", 1, Cause::Counts),
+    ("1 0\nb", 0, Cause::End),
+    ("2 1\nb\n", 3, Cause::End),
+    ("2 1\nb\nx\n0 1\n", 3, Cause::Kind),
+    ("2 1\nb\nb\n", 4, Cause::End),
+    ("2 1\nb\nb\n0,1\n", 4, Cause::Edge),
+    ("2 1\nb\nb\n0 2\n", 4, Cause::Node),
+    ("2 1\nb\nb\n0 1\n1 0\n", 5, Cause::More),
+];
+
+#[test]
+fn a_mistake_has_its_line(rt: HostRuntime) -> Result<(), Fail> {
+    for (list, line, cause) in &MISTAKES {
+        // (no list is wrong on line 0: that one is right)
+        let found = match read_list(rt.alloc(), list) {
+            Ok(_) => 0,
+            Err(fault) => {
+                assert!(rt; fault.cause == *cause);
+                fault.line
+            }
+        };
+        assert_eq!(rt; found, *line);
+    }
     Ok(())
 }
