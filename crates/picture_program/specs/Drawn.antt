@@ -80,8 +80,9 @@ pub record IsSheetIn (input : List ℕ) (entries : Entries) (whole : Sheet) : Ty
   pub within : last_entry entries < length history.entries
   pub is : IsSheetOf history entries whole
 
--- the text is that of what is asked for
-pub record IsPicture (input : List ℕ) (r : Request) (text : List ℕ) : Type 0 where
+-- the bytes are within the limit, and the text is that of what is asked for
+pub record IsPicture (most : ℕ) (input : List ℕ) (r : Request) (text : List ℕ) : Type 0 where
+  pub size : length input ≤ most
   pub whole : Sheet
   pub drawn : IsSheetIn input r.entries whole
   pub part : Sheet
@@ -120,7 +121,7 @@ IsRefused most input r refusal.NoNode = HasNoNode input r
 
 -- what is answered of the bytes
 abbrev pub IsDrawn : ℕ → List ℕ → Request → Drawn → Type 0
-IsDrawn most input r (drawn.Picture text) = IsPicture input r text.items
+IsDrawn most input r (drawn.Picture text) = IsPicture most input r text.items
 IsDrawn most input r (drawn.None refusal) = IsRefused most input r refusal
 
 -- the line that says it

@@ -16,10 +16,11 @@ NamesNone words = (r : Request) → Asks words r → ⊥
 abbrev pub usage_text : List ℕ
 usage_text = codes "usage: heap_picture N [M] [--around NODE K]\n"
 
--- the text is the picture that is asked for of the bytes; or it is the line that says why there is none
-pub record PictureOf (input : List ℕ) (r : Request) (Put : List ℕ → Type 0) : Type 0 where
+-- the text is the picture that is asked for of the bytes, which are within the limit; or it is the line that says why
+-- there is none
+pub record PictureOf (most : ℕ) (input : List ℕ) (r : Request) (Put : List ℕ → Type 0) : Type 0 where
   pub text : List ℕ
-  pub drawn : IsPicture input r text
+  pub drawn : IsPicture most input r text
   pub put : Put text
 
 pub record RefusalOf (most : ℕ) (input : List ℕ) (r : Request) (Put : List ℕ → Type 0) : Type 0 where
@@ -34,7 +35,7 @@ pub record PicturePut (most : ℕ) (words : List (List ℕ))
   pub asks : Asks words request
   pub input : List ℕ
   pub took : Took most left rest input
-  pub picture : PictureOf input request Put
+  pub picture : PictureOf most input request Put
 
 -- the same, and why there is none was put
 pub record RefusalPut (most : ℕ) (words : List (List ℕ))

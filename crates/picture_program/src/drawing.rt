@@ -1,6 +1,6 @@
 // From the bytes of a report to the text of a picture.
 
-ghost use Rattle.std.specs.Prelude.{◌≡◌, ◌↔◌, ◌<◌, IfOk, IsTrue, false, length};
+ghost use Rattle.std.specs.Prelude.{◌≡◌, ◌↔◌, ◌<◌, ◌≤◌, IfOk, IsTrue, false, length};
 ghost use Rattle.byte_streams.specs.Streams.{Writes};
 ghost use Rattle.report_reader.specs.Reading.{IsReadAs};
 ghost use Rattle.picture_laws.specs.Seeing.{IsInOrderTo};
@@ -109,6 +109,7 @@ fn draw_history(
     history: &History,
     request: Request,
 ) -> Result<Drawn, AllocError>
+    requires size { length bytes.now ≤ _most }
     requires reads { IsReadAs bytes.now history.now }
     requires order { AreEntries request.entries }
     ensures { IfOk result (λ d. IsDrawn _most bytes.now request d) }
@@ -133,7 +134,8 @@ fn draw_sheet(
     sheet: Sheet,
     request: Request,
 ) -> Result<Drawn, AllocError>
-    requires { IsSheetIn bytes.now request.entries sheet }
+    requires size { length bytes.now ≤ _most }
+    requires drawn { IsSheetIn bytes.now request.entries sheet }
     ensures { IfOk result (λ d. IsDrawn _most bytes.now request d) }
 {
     match part_of(alloc, sheet, request.around)? {

@@ -97,11 +97,11 @@ fn print_picture<S: Source, K: Sink>(
 fn print_drawn<K: Sink>(alloc: Global, bytes: &[u8], request: Request, out: &mut K) -> u8
     requires few { length bytes.now < u32.MAX }
     requires order { AreEntries request.entries }
-    ensures printed { result ≡ 0 → PictureOf bytes.now request (Appends (K.held out.old) (K.held out.new)) }
+    ensures printed { result ≡ 0 → PictureOf 268435456 bytes.now request (Appends (K.held out.old) (K.held out.new)) }
     ensures refused { result ≡ 3 → RefusalOf 268435456 bytes.now request (Appends (K.held out.old) (K.held out.new)) }
     ensures write { result ≡ 4 → Rose (K.faults out.old) (K.faults out.new) }
     ensures part { result ≡ 4 → RefusalOf 268435456 bytes.now request (AppendsPart (K.held out.old) (K.held out.new))
-        ⊎ PictureOf bytes.now request (AppendsPart (K.held out.old) (K.held out.new)) }
+        ⊎ PictureOf 268435456 bytes.now request (AppendsPart (K.held out.old) (K.held out.new)) }
     ensures memory { result ≡ 5 → Keeps (K.held out.old) (K.held out.new) }
     ensures status { (result ≡ 0) ⊎ ((3 ≤ result) × (result ≤ 5)) }
 {
