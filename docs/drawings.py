@@ -24,7 +24,7 @@ GROUPS = {
     "programs": "judged_reports bridge_program bridge_run heap_picture contract_tool weak_reads handle_cycles pass_c",
 }
 # crates of tests, and worked examples: nothing stands on them
-TESTS = "worked_texts worked_histories worked_endings"
+TESTS = "worked_texts worked_histories worked_endings worked_answers"
 
 # what the promise of a report rests on, top down: who says it, what is said, and what the step below gives it
 SPINE = [
