@@ -100,8 +100,9 @@ fn each_line_has_its_turn(rt: HostRuntime) -> Result<(), Fail> {
     Ok(())
 }
 
-// A turnstile at which the managed thread waits for its first line until the peer thread has come to its second one,
-// and the peer thread for its first until the managed one has come; for so many turns at most.
+// A turnstile at which the managed thread waits for its first line until the peer thread has come to its third one, and
+// the peer thread for its first until the managed one has come; for so many turns at most. So where a line ran before
+// its turn, the managed thread's would stand before the peer's second one.
 #[derive(Drop)]
 struct PeerFirst {
     managed: AtomicU64,
@@ -111,7 +112,7 @@ struct PeerFirst {
 impl Turnstile for PeerFirst {
     fn pass(&self, thread: Thread, line: u32) {
         let (mine, other, wanted) = match thread {
-            Thread::M(_) => (&self.managed, &self.peer, 3),
+            Thread::M(_) => (&self.managed, &self.peer, 4),
             Thread::P(_) => (&self.peer, &self.managed, 1),
             Thread::C => return,
         };
@@ -130,9 +131,12 @@ fn a_turn_comes_before_its_line(rt: HostRuntime) -> Result<(), Fail> {
         managed: AtomicU64::new(0),
         peer: AtomicU64::new(0),
     };
-    let text = b"m1 new a plain 0\np1 new a 0\np1 drop a\n";
+    let text = b"m1 new a plain 0\np1 drop b\np1 new a 0\np1 drop a\n";
     let out = written_at(&rt, rt.alloc(), THREADS, text, &turn)?;
-    assert!(rt; out.bytes().starts_with(b"0 p1.2 new a 0 = p1\n"));
+    assert!(rt;
+        out.bytes()
+            .starts_with(b"0 p1.2 drop b = ok\n1 p1.3 new a 0 = p1\n")
+    );
     Ok(())
 }
 
