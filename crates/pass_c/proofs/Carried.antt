@@ -1,7 +1,7 @@
 -- What was found of the made graph is what is found of the arrays: both have the same bridge nodes and edges.
-use Rattle.std.proofs.Common.{◌≡◌, ℕ, ◌<◌, ◌++◌, ◌∷◌, [], ◌↔◌, List, length}
+use Rattle.std.proofs.Common.{ℕ, ◌++◌, ◌∷◌, [], ◌↔◌, List}
 use Rattle.std.proofs.lemmas.List.Elements.{All-weaker}
-use Rattle.joint_machine.specs.Components.{IsPlainClass, Leads, first_at}
+use Rattle.joint_machine.specs.Components.{IsPlainClass, first_at}
 use Rattle.joint_machine.specs.Walks.{Mutual}
 use Rattle.joint_machine.proofs.WalkLemmas.{Reaches-mono, Walks-mono}
 use Rattle.joint_laws.proofs.SameGraphs.{contraction-same}

@@ -6,14 +6,13 @@
 -- the class. Back: the walk is followed node by node. At each node what is reported is known that was come to last, and
 -- what the walk was in since then is unreported. Whether the class of the next node is heavy can't be computed; but
 -- whether the pair is listed can, so it is enough that it isn't impossible.
-use Rattle.std.proofs.Common.{◌≡◌, ◌≢◌, ℕ, zero, suc, ◌+◌, ◌-◌, ◌<◌, ◌≤◌, ◌↔◌, ◌⊎◌, inl, inr, List, [], ◌∷◌, ◌++◌, length, map, get_or, Some, refl, sym, ap, subst, ◌∙◌, arith}
+use Rattle.std.proofs.Common.{◌≡◌, ◌≢◌, ℕ, zero, suc, ◌+◌, ◌-◌, ◌<◌, ◌≤◌, ◌⊎◌, inl, inr, List, [], ◌∷◌, ◌++◌, length, map, get_or, refl, sym, ap, subst, ◌∙◌, arith}
 use Rattle.std.specs.List.{All, Contains}
-use Rattle.std.specs.Prelude.{slice_get, slice_index}
 use Rattle.std.proofs.lemmas.Bool.{cases_eq, cases_lt}
 use Rattle.std.proofs.lemmas.List.{get_or_append_left, get_or-append_right, length-map}
 use Rattle.std.proofs.lemmas.List.Elements.{All-nil, All-cons, All-head, All-tail, All-weaker, Contains-get_or}
 use Rattle.std.proofs.lemmas.Option.{slice_get_within, get_or_from_slice_get}
-use Rattle.joint_machine.specs.Components.{IsCanonical, IsContraction, IsHeavy, IsLeast, IsMember, IsPlainClass, IsUnreported, Leads, LeadsIn, LeadsOut, first_at, first_of, stand_at}
+use Rattle.joint_machine.specs.Components.{IsContraction, IsHeavy, IsLeast, IsPlainClass, IsUnreported, Leads, LeadsIn, LeadsOut, first_at, first_of, stand_at}
 use Rattle.joint_machine.specs.Walks.{Walks, Reaches, Reached, Mutual}
 use Rattle.joint_machine.proofs.Members.{at-Contains, Contains-nil, Contains-here, Contains-there, Contains-cons_cases}
 use Rattle.joint_machine.proofs.WalkLemmas.{Reaches-then, Reaches-trans, Reached-keeps, Reached-start, Reached-then, Mutual-self, Mutual-sym, Mutual-trans}

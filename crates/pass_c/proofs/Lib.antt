@@ -1,5 +1,3 @@
-pub mod Nodes
-pub mod Edges
 pub mod Writing
 pub mod Carried
 pub mod Passing

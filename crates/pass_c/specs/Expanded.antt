@@ -4,7 +4,8 @@ use Rattle.joint_machine.specs.Components.{IsCanonical, IsMember, IsPlainClass, 
 use Rattle.joint_machine.specs.Walks.{Mutual, Reached}
 use Rattle.bridge_graph.specs.declared.packing.Link.{Link}
 use Rattle.pass_c.specs.declared.arrays.PassCounts.{PassCounts}
-use Rattle.pass_c.specs.Found.{AreCounted, AreShort, AreWritten, LeadsInRow, all_of}
+use Rattle.pass_c.specs.Found.{AreCounted, AreShort, AreWritten, all_of}
+use Rattle.array_graphs.specs.Graphs.{LeadsInRow}
 
 -- one comes from i to y over cross-references, past what stands from n on alone: past components without members
 abbrev pub Through : List (ℕ × ℕ) → ℕ → ℕ → ℕ → Type 0

@@ -1,38 +1,9 @@
--- What the arrays of a call say: a graph before it, and components with their cross-references behind it.
-use Rattle.std.specs.Prelude.{◌≡◌, ◌≢◌, ℕ, ◌+◌, ◌<◌, ◌≤◌, ◌⊎◌, List, [], ◌∷◌, ◌++◌, length, map, take, replicate, All}
-use Rattle.std.specs.Prelude.{Contains, Some, slice_get, slice_index, slice_index_or, slice_range}
+-- What stands in the arrays behind a call: components with their cross-references.
+use Rattle.std.specs.Prelude.{◌≡◌, ℕ, ◌<◌, ◌⊎◌, List, [], ◌∷◌, ◌++◌, length, map, take, replicate, Some, slice_get}
 use Rattle.joint_machine.specs.Components.{IsContraction}
 use Rattle.bridge_graph.specs.declared.packing.Link.{Link}
+use Rattle.array_graphs.specs.Graphs.{pair_of}
 use Rattle.pass_c.specs.declared.arrays.PassCounts.{PassCounts}
-
--- node x is a bridge node: its kind isn't 0
-abbrev pub IsBridgeAt : List ℕ → ℕ → Type 0
-IsBridgeAt kinds x = (kind : ℕ) × (slice_get kinds x ≡ Some kind) × (kind ≢ 0)
-
--- an edge leads from x to y, as a pair
-abbrev pub HasEdge : List Link → ℕ → ℕ → Type 0
-HasEdge edges x y = Contains edges record { from = x; to = y }
-
--- the pairs are edges between so many nodes
-abbrev pub AreEdges : ℕ → List Link → Type 0
-AreEdges nodes edges = All (λ e. (e.from < nodes) × (e.to < nodes)) edges
-
--- an edge leads from x to y, in rows: y stands in the targets from the start of row x on, up to that of the next row,
--- or up to the end
-abbrev pub LeadsInRow : List ℕ → List ℕ → ℕ → ℕ → Type 0
-LeadsInRow starts targets x y = (x < length starts)
-    × Contains (slice_range targets (slice_index starts x) (slice_index_or starts (x + 1) (length targets))) y
-
--- each row starts where the next one does, or before it, and none behind the end
-pub record AreInOrder (starts : List ℕ) (end : ℕ) : Type 0 where
-  pub order : (x : ℕ) → x < length starts → slice_index starts x ≤ slice_index_or starts (x + 1) end
-  pub within : (x : ℕ) → slice_index_or starts x end ≤ end
-
--- the arrays are the rows of so many nodes: a start for each, in order, and targets that are nodes
-pub record AreRows (nodes : ℕ) (starts targets : List ℕ) : Type 0 where
-  pub count : length starts ≡ nodes
-  pub cut : AreInOrder starts (length targets)
-  pub ends : All (λ y. y < nodes) targets
 
 -- lists one behind another
 abbrev pub flat : List (List ℕ) → List ℕ
@@ -42,9 +13,6 @@ flat (xs ∷ xss) = xs ++ flat xss
 -- the components by their indexes: behind those with members stand the heavy classes, without members
 abbrev pub all_of : List (List ℕ) → ℕ → List (List ℕ)
 all_of comps heavy = comps ++ replicate heavy []
-
-abbrev pub pair_of : Link → ℕ × ℕ
-pair_of l = (l.from, l.to)
 
 -- the numbers of what was found
 pub record AreCounted (comps : List (List ℕ)) (heavy : ℕ) (pairs : List (ℕ × ℕ)) (counts : PassCounts) : Type 0 where

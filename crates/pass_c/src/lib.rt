@@ -19,20 +19,22 @@
 
 ghost use Rattle.std.specs.Prelude.{◌≡◌, ◌≢◌, ℕ, ◌↔◌, ◌≤◌, ◌⊎◌, List, length};
 ghost use Rattle.bridge_graph.specs.Parts.{IsBridgeNode, NodeLeads};
-ghost use Rattle.pass_c.specs.Found.{AreEdges, AreRows, Found, HasEdge, IsBridgeAt, Lacks, LeadsInRow};
+ghost use Rattle.pass_c.specs.Found.{Found, Lacks};
 ghost use Rattle.pass_c.specs.Expanded.{AreExpanded, FoundExpanded, LacksExpanded};
-ghost use Rattle.pass_c.specs.Calls.{Gives, IsTooLong};
+ghost use Rattle.pass_c.specs.Calls.{Gives};
 
 mod arrays;
 mod expanding;
-mod graphs;
 mod results;
 
+ghost use Rattle.array_graphs.specs.Graphs.{AreEdges, AreRows, HasEdge, IsBridgeAt, LeadsInRow};
+ghost use Rattle.array_graphs.specs.Made.{IsTooLong};
+
+use array_graphs::{Stop, graph_of_pairs, graph_of_rows};
 pub use arrays::PassCounts;
 use bridge_graph::{DeadGraph, Link};
 use component_pass::contract;
 use expanding::expand;
-use graphs::{Stop, graph_of_pairs, graph_of_rows};
 use results::{give, give_expanded};
 use std::alloc::Global;
 use xref_list::{Components, ListingFault};

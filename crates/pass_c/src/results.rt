@@ -2,8 +2,9 @@
 
 ghost use Rattle.std.specs.Prelude.{◌≡◌, ◌^◌, ◌≢◌, ℕ, ◌+◌, ◌<◌, ◌≤◌, ◌⊎◌, ◌++◌, length, map, take, IfSome, Some};
 ghost use Rattle.std.specs.Prelude.{slice_get};
-ghost use Rattle.pass_c.specs.Found.{all_of, flat, pair_of};
+ghost use Rattle.pass_c.specs.Found.{all_of, flat};
 ghost use Rattle.pass_c.specs.Calls.{Gives};
+ghost use Rattle.array_graphs.specs.Graphs.{pair_of};
 
 use crate::arrays::PassCounts;
 use crate::{DONE, NO_ROOM, TOO_MANY};

@@ -1,7 +1,7 @@
 use Rattle.bridge_graph.specs.Parts.{IsBridgeNode, NodeLeads}
-use Rattle.pass_c.specs.Found.{LeadsInRow, IsBridgeAt}
 use Rattle.pass_c.proofs.Carried.{found-same, found_expanded-same, lacks-same, lacks_expanded-same}
 use Rattle.pass_c.proofs.pass_rows.Goals as goal
+use Rattle.array_graphs.specs.Graphs.{IsBridgeAt, LeadsInRow}
 
 pub returns-in-Ok-clause-done : goal.returns-in-Ok-clause-done
 returns-in-Ok-clause-done c =

@@ -1,4 +1,4 @@
-use Rattle.std.proofs.Common.{◌≡◌, ◌<◌, ◌+◌, length, take, ◌++◌, Some, slice_get, sym, ap, ◌∙◌, arith, length-append}
+use Rattle.std.proofs.Common.{length, take, ap, arith, length-append}
 use Rattle.pass_c.specs.Found.{all_of, flat}
 use Rattle.pass_c.proofs.Writing.{all-at, flat-next}
 use Rattle.pass_c.proofs.results.count_members.Goals as goal

@@ -2,8 +2,8 @@ use Rattle.std.proofs.Common.{[], ◌∷◌, ◌++◌, map, take, sym, ap, ◌�
 use Rattle.std.proofs.lemmas.List.{map-append, take_more_set}
 use Rattle.joint_machine.proofs.Members.{take-next}
 use Rattle.bridge_graph.specs.declared.packing.Link.{Link}
-use Rattle.pass_c.specs.Found.{pair_of}
 use Rattle.pass_c.proofs.results.write_xrefs.Goals as goal
+use Rattle.array_graphs.specs.Graphs.{pair_of}
 
 pub loop-i-preserved : goal.loop-i-preserved
 loop-i-preserved c =

@@ -1,8 +1,8 @@
-use Rattle.std.proofs.Common.{◌<◌, ◌+◌, ◌∷◌, [], ◌++◌, take, get_or, subst, sym, arith}
+use Rattle.std.proofs.Common.{◌<◌, take, get_or, subst, sym, arith}
 use Rattle.std.specs.List.{All}
 use Rattle.std.proofs.lemmas.List.{take_all, take_more}
 use Rattle.std.proofs.lemmas.List.Elements.{All-push}
-use Rattle.pass_c.proofs.graphs.are_nodes.Goals as goal
+use Rattle.array_graphs.proofs.graphs.are_nodes.Goals as goal
 
 pub loop-y-preserved : goal.loop-y-preserved
 loop-y-preserved c =

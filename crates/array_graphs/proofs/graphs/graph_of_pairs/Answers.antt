@@ -1,11 +1,11 @@
-use Rattle.std.proofs.Common.{◌≡◌, ℕ, ◌≤◌, ◌<◌, ◌↔◌, List, length, sym, subst, ◌∙◌, arith}
+use Rattle.std.proofs.Common.{◌≡◌, length, sym, subst, arith}
 use Rattle.bridge_graph.specs.Packing.{packed_rows}
 use Rattle.bridge_graph.specs.Parts.{NodeLeads}
-use Rattle.pass_c.specs.Calls.{HasNodes}
-use Rattle.pass_c.specs.Found.{AreEdges, HasEdge}
-use Rattle.pass_c.proofs.Nodes.{nodes-bridge}
-use Rattle.pass_c.proofs.Edges.{edge-end, packed-part, pairs-lead}
-use Rattle.pass_c.proofs.graphs.graph_of_pairs.Goals as goal
+use Rattle.array_graphs.specs.Made.{HasNodes}
+use Rattle.array_graphs.specs.Graphs.{AreEdges}
+use Rattle.array_graphs.proofs.Nodes.{nodes-bridge}
+use Rattle.array_graphs.proofs.Edges.{edge-end, packed-part, pairs-lead}
+use Rattle.array_graphs.proofs.graphs.graph_of_pairs.Goals as goal
 
 pub of_rows-requires : goal.of_rows-requires
 of_rows-requires c =

@@ -1,6 +1,6 @@
 -- The edges of the arrays are those of the rows that are made of them.
-use Rattle.std.proofs.Common.{◌≡◌, ℕ, ◌+◌, ◌<◌, ◌≤◌, ◌↔◌, inl, inr, true, List, [], ◌∷◌, ◌++◌, length, map, get_or, refl, sym, ap, subst, ◌∙◌, arith}
-use Rattle.std.specs.List.{All, Contains, range_with_len}
+use Rattle.std.proofs.Common.{◌≡◌, ℕ, ◌+◌, ◌<◌, ◌≤◌, ◌↔◌, inl, inr, List, [], length, refl, sym, subst, ◌∙◌, arith}
+use Rattle.std.specs.List.{All, Contains}
 use Rattle.std.specs.Prelude.{filter, ◌==◌, slice_index, slice_index_or, slice_range}
 use Rattle.std.proofs.lemmas.Bool.{cases_lt, eq-eqb, eqb-true}
 use Rattle.std.proofs.lemmas.List.{get_or_past}
@@ -13,9 +13,9 @@ use Rattle.bridge_graph.specs.Packed.{IsPackedPart}
 use Rattle.bridge_graph.specs.Packing.{IsCut, IsPacked, packed_row, packed_rows, rest_of}
 use Rattle.bridge_graph.specs.Parts.{NodeLeads, row_at}
 use Rattle.bridge_graph.proofs.Rows.{row-of_map}
-use Rattle.pass_c.specs.Calls.{HasNodes}
-use Rattle.pass_c.specs.Found.{AreEdges, AreRows, HasEdge, LeadsInRow}
-use Rattle.pass_c.proofs.Nodes.{nodes-open}
+use Rattle.array_graphs.specs.Made.{HasNodes}
+use Rattle.array_graphs.specs.Graphs.{AreEdges, HasEdge, LeadsInRow}
+use Rattle.array_graphs.proofs.Nodes.{nodes-open}
 
 row-within : (starts targets : List ℕ) (n x : ℕ) → x < n → row_at (packed_rows starts targets n) x ≡ packed_row starts targets x
 row-within starts targets n x l = row-of_map (packed_row starts targets) n x l

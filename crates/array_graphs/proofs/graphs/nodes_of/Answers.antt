@@ -1,8 +1,7 @@
-use Rattle.std.proofs.Common.{[], ◌+◌, ◌≡◌, false, length, ◌∷◌, ◌++◌, sym, ap, subst, ◌∙◌, arith}
-use Rattle.bridge_graph.specs.declared.graph.Node.{Node}
-use Rattle.pass_c.specs.Calls.{HasNodes}
-use Rattle.pass_c.proofs.Nodes.{nodes-none, nodes-more}
-use Rattle.pass_c.proofs.graphs.nodes_of.Goals as goal
+use Rattle.std.proofs.Common.{[], ◌+◌, false, length, ◌∷◌, ◌++◌, sym, ap, subst, ◌∙◌, arith}
+use Rattle.array_graphs.specs.Made.{HasNodes}
+use Rattle.array_graphs.proofs.Nodes.{nodes-none, nodes-more}
+use Rattle.array_graphs.proofs.graphs.nodes_of.Goals as goal
 
 pub loop-i-init : goal.loop-i-init
 loop-i-init c = record {

@@ -1,21 +1,22 @@
 // From a caller's arrays to a graph.
 
 ghost use Rattle.std.specs.Prelude.{◌≡◌, ◌-◌, ℕ, ◌+◌, ◌<◌, ◌≤◌, ◌⊎◌, length, All, Err, IfOk, MatchBool, IsTrue, ◌↔◌};
-ghost use Rattle.pass_c.specs.Found.{AreEdges, AreInOrder, AreRows, HasEdge, IsBridgeAt, LeadsInRow};
-ghost use Rattle.pass_c.specs.Calls.{HasNodes, IsMade, IsTooLong, handle_by};
+ghost use Rattle.array_graphs.specs.Graphs.{AreEdges, AreInOrder, AreRows, HasEdge, IsBridgeAt, LeadsInRow};
+ghost use Rattle.array_graphs.specs.Made.{HasNodes, IsMade, IsTooLong, handle_by};
 
 use bridge_graph::{DeadGraph, Link, Node, pack_rows};
 use joint_machine::{HNum, MNum};
 use std::alloc::{AllocError, Global};
 
-// The most nodes and the most edges of a graph.
-const MOST_NODES: usize = 4_294_967_294;
+/// The most nodes of a graph.
+pub const MOST_NODES: usize = 4_294_967_294;
 
-const MOST_EDGES: usize = 4_294_967_295;
+/// The most edges of a graph.
+pub const MOST_EDGES: usize = 4_294_967_295;
 
 /// What stops the making of a graph.
 #[derive(Clone, Copy, PartialEq, Eq, Debug)]
-pub(crate) enum Stop {
+pub enum Stop {
     /// There is no memory.
     Memory,
     /// The arrays are no graph.
@@ -25,7 +26,7 @@ pub(crate) enum Stop {
 }
 
 impl From<AllocError> for Stop {
-    ghost use Rattle.pass_c.specs.declared.graphs.Stop.TheVariants as cause;
+    ghost use Rattle.array_graphs.specs.declared.graphs.Stop.TheVariants as cause;
 
     ghost from_gives = { λ _ e. e ≡ cause.Memory };
 
@@ -34,8 +35,9 @@ impl From<AllocError> for Stop {
     }
 }
 
-/// The graph of rows.
-pub(crate) fn graph_of_rows(
+/// The graph of rows. Answers `Graph` exactly where the arrays aren't the rows of a graph, `TooMany` exactly where there
+/// are more than 4,294,967,294 nodes or 4,294,967,295 edges, and `Memory` where there is no memory.
+pub fn graph_of_rows(
     alloc: Global,
     kinds: &[u8],
     starts: &[u32],
@@ -44,8 +46,8 @@ pub(crate) fn graph_of_rows(
     ensures made { IfOk result (λ g. IsMade (IsBridgeAt kinds.now)
         (LeadsInRow starts.now targets.now) g.nodes g.edges) }
     ensures graph { (result ≡ Err Stop.Graph) ↔ (AreRows (length kinds.now) starts.now targets.now → ⊥) }
-    ensures many { IsTooLong (length kinds.now) (length targets.now)
-        → AreRows (length kinds.now) starts.now targets.now → result ≡ Err Stop.TooMany }
+    ensures many { (result ≡ Err Stop.TooMany) ↔ (AreRows (length kinds.now) starts.now targets.now
+        × IsTooLong (length kinds.now) (length targets.now)) }
 {
     if !are_rows(kinds.len(), starts, targets) {
         return Err(Stop::Graph);
@@ -59,12 +61,12 @@ pub(crate) fn graph_of_rows(
     Ok(DeadGraph::of_rows(nodes, starts, targets))
 }
 
-/// The graph of pairs.
-pub(crate) fn graph_of_pairs(alloc: Global, kinds: &[u8], edges: &[Link]) -> Result<DeadGraph, Stop>
+/// The graph of pairs. Answers `Graph` exactly where a pair names no node, and else as for rows.
+pub fn graph_of_pairs(alloc: Global, kinds: &[u8], edges: &[Link]) -> Result<DeadGraph, Stop>
     ensures made { IfOk result (λ g. IsMade (IsBridgeAt kinds.now) (HasEdge edges.now) g.nodes g.edges) }
     ensures graph { (result ≡ Err Stop.Graph) ↔ (AreEdges (length kinds.now) edges.now → ⊥) }
-    ensures many { IsTooLong (length kinds.now) (length edges.now)
-        → AreEdges (length kinds.now) edges.now → result ≡ Err Stop.TooMany }
+    ensures many { (result ≡ Err Stop.TooMany) ↔ (AreEdges (length kinds.now) edges.now
+        × IsTooLong (length kinds.now) (length edges.now)) }
 {
     if !are_edges(kinds.len(), edges) {
         return Err(Stop::Graph);
@@ -77,15 +79,15 @@ pub(crate) fn graph_of_pairs(alloc: Global, kinds: &[u8], edges: &[Link]) -> Res
     Ok(DeadGraph::of_rows(nodes, packed.starts, packed.targets))
 }
 
-// Whether the arrays are the rows of so many nodes: a start for each, in order, and targets that are nodes.
-fn are_rows(nodes: usize, starts: &[u32], targets: &[u32]) -> bool
+/// Whether the arrays are the rows of so many nodes: a start for each, in order, and targets that are nodes.
+pub fn are_rows(nodes: usize, starts: &[u32], targets: &[u32]) -> bool
     ensures { MatchBool result (AreRows nodes starts.now targets.now) (¬ AreRows nodes starts.now targets.now) }
 {
     starts.len() == nodes && are_in_order(starts, targets.len()) && are_nodes(nodes, targets)
 }
 
-// Whether the starts rise, and none is greater than the end.
-fn are_in_order(starts: &[u32], end: usize) -> bool
+/// Whether the starts rise, and none is greater than the end.
+pub fn are_in_order(starts: &[u32], end: usize) -> bool
     ensures { MatchBool result (AreInOrder starts.now end) (¬ AreInOrder starts.now end) }
 {
     let mut left = starts.len();
@@ -100,8 +102,8 @@ fn are_in_order(starts: &[u32], end: usize) -> bool
     true
 }
 
-// Whether all are indexes of nodes.
-fn are_nodes(nodes: usize, targets: &[u32]) -> bool
+/// Whether all are indexes of nodes.
+pub fn are_nodes(nodes: usize, targets: &[u32]) -> bool
     ensures { MatchBool result (All (λ y. y < nodes) targets.now) (¬ All (λ y. y < nodes) targets.now) }
 {
     for y in targets {
@@ -112,8 +114,8 @@ fn are_nodes(nodes: usize, targets: &[u32]) -> bool
     true
 }
 
-// Whether each edge joins two nodes.
-fn are_edges(nodes: usize, edges: &[Link]) -> bool
+/// Whether each edge joins two nodes.
+pub fn are_edges(nodes: usize, edges: &[Link]) -> bool
     ensures { MatchBool result (AreEdges nodes edges.now) (¬ AreEdges nodes edges.now) }
 {
     for e in edges {

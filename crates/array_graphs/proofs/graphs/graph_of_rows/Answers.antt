@@ -1,11 +1,8 @@
-use Rattle.std.proofs.Common.{◌≡◌, ℕ, ◌≤◌, ◌<◌, ◌↔◌, List, length, sym, subst, ◌∙◌, arith}
-use Rattle.bridge_graph.specs.Packed.{IsPackedPart}
-use Rattle.bridge_graph.specs.Parts.{NodeLeads}
-use Rattle.pass_c.specs.Calls.{HasNodes}
-use Rattle.pass_c.specs.Found.{LeadsInRow}
-use Rattle.pass_c.proofs.Nodes.{nodes-bridge}
-use Rattle.pass_c.proofs.Edges.{packed-part, row-ends, rows-lead}
-use Rattle.pass_c.proofs.graphs.graph_of_rows.Goals as goal
+use Rattle.std.proofs.Common.{length, sym, subst, ◌∙◌, arith}
+use Rattle.array_graphs.specs.Made.{HasNodes}
+use Rattle.array_graphs.proofs.Nodes.{nodes-bridge}
+use Rattle.array_graphs.proofs.Edges.{packed-part, row-ends, rows-lead}
+use Rattle.array_graphs.proofs.graphs.graph_of_rows.Goals as goal
 
 pub of_rows-requires : goal.of_rows-requires
 of_rows-requires c =

@@ -1,6 +1,6 @@
 use Rattle.std.proofs.Common.{◌≡◌, ℕ, ◌+◌, ◌<◌, ◌≤◌, length}
 use Rattle.std.specs.Prelude.{slice_index, slice_index_or}
-use Rattle.pass_c.proofs.graphs.are_in_order.Given as goal
+use Rattle.array_graphs.proofs.graphs.are_in_order.Given as goal
 
 abbrev pub invariant-loop-left : goal.invariant-loop-left
 invariant-loop-left l = record {

@@ -1,12 +1,12 @@
 -- The nodes of the kinds, one by one: their numbers rise, none is opaque, and the bridge nodes are those whose kinds
 -- aren't 0.
-use Rattle.std.proofs.Common.{◌≡◌, ◌≢◌, ℕ, zero, suc, ◌+◌, ◌<◌, ◌≤◌, ◌↔◌, ◌⊎◌, inl, inr, Bool, true, List, [], ◌∷◌, ◌++◌, length, map, get_or, slice_get, false, cond, Some, None, refl, sym, ap, subst}
+use Rattle.std.proofs.Common.{◌≡◌, ◌≢◌, ℕ, zero, suc, ◌+◌, ◌<◌, ◌≤◌, ◌↔◌, inl, inr, true, List, [], ◌∷◌, ◌++◌, length, get_or, slice_get, false, cond, Some, None, refl, sym, ap, subst}
 use Rattle.std.proofs.Common.{◌∙◌, arith}
-use Rattle.std.specs.Prelude.{All, Contains, IsSome, is_some}
+use Rattle.std.specs.Prelude.{All, IsSome, is_some}
 use Rattle.std.proofs.Math.Dec.{eqb}
 use Rattle.std.proofs.lemmas.Bool.Decides.{nat_tests}
 use Rattle.std.proofs.lemmas.Bool.{cases_lt, false≢true}
-use Rattle.std.proofs.lemmas.List.{get_or-map, get_or_past, length-map, length_push, map_push}
+use Rattle.std.proofs.lemmas.List.{get_or-map, length_push, map_push}
 use Rattle.std.proofs.lemmas.List.Elements.{All-map}
 use Rattle.std.proofs.lemmas.Option.{same_Some, slice_get_within, slice_get-get_or, get_or_from_slice_get}
 use Rattle.joint_machine.proofs.Members.{at-Contains, All-members, last-or, Rises-push}
@@ -15,8 +15,8 @@ use Rattle.joint_machine.specs.Components.{Rises}
 use Rattle.joint_machine.specs.declared.names.HNum.{HNum}
 use Rattle.bridge_graph.specs.declared.graph.Node.{Node}
 use Rattle.bridge_graph.specs.Parts.{IsBridgeNode, numbers_of, opaque_at}
-use Rattle.pass_c.specs.Calls.{HasNodes, handle_by, node_at}
-use Rattle.pass_c.specs.Found.{IsBridgeAt}
+use Rattle.array_graphs.specs.Made.{HasNodes, handle_by, node_at}
+use Rattle.array_graphs.specs.Graphs.{IsBridgeAt}
 
 pub nodes-none : (kinds : List ℕ) → HasNodes kinds 0 []
 nodes-none kinds = record { count = refl; each = λ x l. absurd (omega (arith, l)); rising = tt }

@@ -1,9 +1,9 @@
-use Rattle.std.proofs.Common.{◌<◌, ◌+◌, ◌∷◌, [], ◌++◌, take, get_or, subst, sym, arith}
+use Rattle.std.proofs.Common.{◌<◌, take, get_or, subst, sym, arith}
 use Rattle.std.proofs.lemmas.List.{take_all, take_more}
 use Rattle.std.proofs.lemmas.List.Elements.{All-push}
 use Rattle.bridge_graph.specs.declared.packing.Link.{Link}
-use Rattle.pass_c.specs.Found.{AreEdges}
-use Rattle.pass_c.proofs.graphs.are_edges.Goals as goal
+use Rattle.array_graphs.specs.Graphs.{AreEdges}
+use Rattle.array_graphs.proofs.graphs.are_edges.Goals as goal
 
 pub loop-e-preserved : goal.loop-e-preserved
 loop-e-preserved c =
