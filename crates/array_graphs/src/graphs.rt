@@ -14,14 +14,14 @@ pub const MOST_NODES: usize = 4_294_967_294;
 /// The most edges of a graph.
 pub const MOST_EDGES: usize = 4_294_967_295;
 
-/// What stops the making of a graph.
+/// What stops a call over a caller's arrays.
 #[derive(Clone, Copy, PartialEq, Eq, Debug)]
 pub enum Stop {
     /// There is no memory.
     Memory,
-    /// The arrays are no graph.
+    /// The arrays are no graph, or not what else they should be.
     Graph,
-    /// There are too many nodes or edges.
+    /// There is too much of something that is numbered in 32 bits.
     TooMany,
 }
 

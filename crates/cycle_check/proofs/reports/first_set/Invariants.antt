@@ -1,0 +1,7 @@
+use Rattle.std.proofs.Common.{ℕ, take}
+use Rattle.std.specs.List.{Contains}
+use Rattle.array_graphs.specs.Graphs.{IsSet}
+use Rattle.cycle_check.proofs.reports.first_set.Given as goal
+
+abbrev pub invariant-loop-x : goal.invariant-loop-x
+invariant-loop-x l = (z : ℕ) → Contains (take l.x-index l.objects) z → IsSet l.flags z → ⊥

@@ -1,0 +1,4 @@
+pub mod Walking
+pub mod Reports
+pub mod Judging
+pub mod Mirroring
