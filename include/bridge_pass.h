@@ -79,6 +79,44 @@ uint32_t pass_pairs(
     struct pass_pair *xrefs, size_t xrefs_room,
     struct pass_counts *counts);
 
+/* What a client does with a report: the references between peers that stand for it, and what was kept. Of the further answers pass_mirror has PASS_NO_REPORT, and pass_resolve
+ * PASS_TORN. */
+enum {
+    PASS_NO_REPORT = 5, /* starts don't rise from 0 to the end, a member isn't below objects, a cross-reference names no component, or one without members isn't last */
+    PASS_TORN = 8       /* what was kept isn't closed: torn->from was, torn->to wasn't, both are bridge objects, and the first reaches the second */
+};
+
+/* How many edges a mirror has, and how many temporaries it leads through. It is written where the answer is PASS_DONE or PASS_NO_ROOM. */
+struct mirror_counts {
+    size_t edges;
+    uint32_t temporaries;
+};
+
+/* The mirror of a report, in the form of the results above, with heavy classes as components or as pairs: each component's members on a circle, from each to the next and from the last
+ * to the first (one alone has none), and then for each cross-reference an edge from the first member of its source to the first member of its destination. A component without
+ * members has a temporary in place of that: the temporaries are the numbers from objects on, in the order of these components. The client makes an object for each, and drops it
+ * once it has marked.
+ *
+ * As many elements as there are members and cross-references are always enough for edges. PASS_TOO_MANY: there are more than 4294967295 objects and components together. */
+uint32_t pass_mirror(
+    size_t objects,
+    const uint32_t *starts, size_t starts_count,
+    const uint32_t *members, size_t members_count,
+    const struct pass_pair *xrefs, size_t xrefs_count,
+    struct pass_pair *edges, size_t edges_room,
+    struct mirror_counts *counts);
+
+/* What a cycle has to take as dead, of a graph in rows: dead[x] is 1 for each node that no bridge object that was kept reaches, and 0 for each that one reaches; kept[x] isn't 0 where
+ * x's peer is left, which is read for bridge objects. Either has an element for each node, or the answer is PASS_NO_GRAPH. Nothing but *torn is written unless it is PASS_DONE,
+ * and *torn only where it is PASS_TORN. */
+uint32_t pass_resolve(
+    const uint8_t *kinds, size_t nodes,
+    const uint32_t *row_starts, size_t row_starts_count,
+    const uint32_t *targets, size_t targets_count,
+    const uint8_t *kept, size_t kept_count,
+    uint8_t *dead, size_t dead_count,
+    struct pass_pair *torn);
+
 #ifdef __cplusplus
 }
 #endif

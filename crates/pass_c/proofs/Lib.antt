@@ -2,3 +2,4 @@ pub mod Writing
 pub mod Carried
 pub mod Passing
 pub mod Joined
+pub mod Answering

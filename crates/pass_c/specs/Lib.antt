@@ -1,3 +1,4 @@
 pub mod Found
 pub mod Calls
 pub mod Expanded
+pub mod Answered

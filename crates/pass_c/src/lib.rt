@@ -8,9 +8,11 @@
 //
 // `pass_rows` takes the graph as a runtime can write it while it walks its objects: where each node's references begin
 // in one list of targets. `pass_pairs` takes it as pairs of nodes in any order. Both make a graph of the library's own
-// (`graphs`), find its components (`component_pass`), put pairs in place of heavy classes where that is asked for
+// (`array_graphs`), find its components (`component_pass`), put pairs in place of heavy classes where that is asked for
 // (`expanding`), and write all where there is room for it (`results`). Nothing outlives the call, and no pointer of the
 // caller's is kept; so calls on arrays of their own may run side by side.
+//
+// What a cycle does with components besides, and whether a cycle was right, are calls of `cycle_check` (`checks`).
 //
 // What is promised: whatever the arrays hold, the call ends, and reads and writes nothing but them and memory of its
 // own; where it answers that it is done, the arrays have exactly the components, heavy classes and cross-references of
@@ -24,6 +26,7 @@ ghost use Rattle.pass_c.specs.Expanded.{AreExpanded, FoundExpanded, LacksExpande
 ghost use Rattle.pass_c.specs.Calls.{Gives};
 
 mod arrays;
+mod checks;
 mod expanding;
 mod results;
 
@@ -33,6 +36,7 @@ ghost use Rattle.array_graphs.specs.Made.{IsTooLong};
 use array_graphs::{Stop, graph_of_pairs, graph_of_rows};
 pub use arrays::PassCounts;
 use bridge_graph::{DeadGraph, Link};
+pub use checks::{MirrorCounts, cycle_check_kept, cycle_check_outcome, pass_mirror, pass_resolve};
 use component_pass::contract;
 use expanding::expand;
 use results::{give, give_expanded};
