@@ -1,4 +1,5 @@
 /* The same lines as components.c, printed from what a runtime's client would get: layouts mono|dotnet < LISTS. An object is a byte whose place is its node. */
+#include "cycle_check.h"
 #include "dotnet.h"
 #include "graph_file.h"
 #include "mono.h"
@@ -23,12 +24,35 @@ static int print_mono(const struct graph *g, const struct result *r, char *heap)
     return 0;
 }
 
+/* What a client that is handed args does with the check: all peers are kept, which fits; then all but one of a component of several, which is torn. */
+static int judge_dotnet(const MarkCrossReferencesArgs *args) {
+    size_t count = 0;
+    for (size_t c = 0; c < args->ComponentCount; c++) count += args->Components[c].Count;
+    uint32_t *starts = room(args->ComponentCount, sizeof *starts), *members = room(count, sizeof *members);
+    struct pass_pair *xrefs = room(args->CrossReferenceCount, sizeof *xrefs), finding = {0, 0};
+    uint8_t *kept = room(count, 1);
+    int failed = dotnet_report(args, starts, members, xrefs) != (long long)count;
+    memset(kept, 1, count);
+    if (cycle_check_kept(starts, args->ComponentCount, members, count, xrefs, args->CrossReferenceCount, kept, count, &finding) != CYCLE_OBEYS) failed = 1;
+    for (size_t c = 0; c < args->ComponentCount; c++) {
+        if (args->Components[c].Count < 2) continue;
+        kept[starts[c]] = 0;
+        uint32_t status = cycle_check_kept(starts, args->ComponentCount, members, count, xrefs, args->CrossReferenceCount, kept, count, &finding);
+        if (status != CYCLE_TORN || finding.to != starts[c]) failed = 1;
+        kept[starts[c]] = 1;
+    }
+    free(starts);
+    free(members);
+    free(xrefs);
+    free(kept);
+    return failed;
+}
+
 static int print_dotnet(const struct graph *g, const struct result *r, char *heap) {
-    void **context = room(g->nodes, sizeof *context), **contexts = room(r->counts.members, sizeof *contexts);
-    StronglyConnectedComponent *components = room(r->counts.comps, sizeof *components);
-    ComponentCrossReference *references = room(r->counts.xrefs, sizeof *references);
+    void **context = room(g->nodes, sizeof *context);
     for (uint32_t x = 0; x < g->nodes; x++) context[x] = heap + x;
-    MarkCrossReferencesArgs args = dotnet_fill(context, r->starts, r->members, r->xrefs, &r->counts, components, contexts, references);
+    MarkCrossReferencesArgs args;
+    if (!dotnet_fill(context, r->starts, r->members, r->xrefs, &r->counts, &args)) return 1;
     for (size_t c = 0; c < args.ComponentCount; c++) {
         fputs("scc", stdout);
         for (size_t k = 0; k < args.Components[c].Count; k++) printf(" %d", (int)((char *)args.Components[c].Contexts[k] - heap));
@@ -36,11 +60,10 @@ static int print_dotnet(const struct graph *g, const struct result *r, char *hea
     }
     for (size_t i = 0; i < args.CrossReferenceCount; i++)
         printf("xref %zu %zu\n", args.CrossReferences[i].SourceGroupIndex, args.CrossReferences[i].DestinationGroupIndex);
+    int failed = judge_dotnet(&args);
+    dotnet_release(&args);
     free(context);
-    free(contexts);
-    free(components);
-    free(references);
-    return 0;
+    return failed;
 }
 
 int main(int argc, char **argv) {

@@ -28,12 +28,16 @@ static MonoGCBridgeSCC *mono_scc(MonoObject *const *objects, const uint32_t *mem
     return scc;
 }
 
-/* All components and cross-references, of at most 2147483647 each, into arrays of counts->comps and counts->xrefs; 0 where there is no memory. */
+/* All components and cross-references, of at most 2147483647 each, into arrays of counts->comps and counts->xrefs. Each component is a block of its own, which the runtime frees with free
+ * once its client is done. 0 where there is no memory: then what was made is freed. */
 static int mono_fill(MonoObject *const *objects, const uint32_t *starts, const uint32_t *members, const struct pass_pair *xrefs,
                      const struct pass_counts *counts, MonoGCBridgeSCC **sccs, MonoGCBridgeXRef *refs) {
     for (uint32_t c = 0; c < counts->comps; c++) {
         uint32_t end = c + 1 < counts->comps ? starts[c + 1] : counts->members;
-        if (!(sccs[c] = mono_scc(objects, members + starts[c], end - starts[c]))) return 0;
+        if (!(sccs[c] = mono_scc(objects, members + starts[c], end - starts[c]))) {
+            while (c-- > 0) free(sccs[c]);
+            return 0;
+        }
     }
     for (uint32_t i = 0; i < counts->xrefs; i++) refs[i] = (MonoGCBridgeXRef){(int)xrefs[i].from, (int)xrefs[i].to};
     return 1;
