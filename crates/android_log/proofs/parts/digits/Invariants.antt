@@ -1,0 +1,7 @@
+use Rattle.std.proofs.Common.{◌≡◌, ◌+◌, drop}
+use Rattle.std.specs.List.{prefix_len}
+use Rattle.android_log.specs.Parts.{is_digit}
+use Rattle.android_log.proofs.parts.digits.Given as goal
+
+abbrev pub invariant-loop-n : goal.invariant-loop-n
+invariant-loop-n l = l.n + prefix_len is_digit (drop l.n l.text) ≡ prefix_len is_digit l.text
