@@ -1,0 +1,9 @@
+pub mod Tallies
+pub mod Lives
+pub mod Holding
+pub mod Cycles
+pub mod Threads
+pub mod Logs
+pub mod Marks
+pub mod Sites
+pub mod Lines
