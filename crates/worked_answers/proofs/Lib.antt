@@ -3,3 +3,4 @@ mod LogsTold
 mod ReportsTold
 mod ListingsTold
 mod ThreadsTold
+mod CommandsTold

@@ -3,3 +3,4 @@ pub mod Logs
 pub mod Reports
 pub mod Listings
 pub mod Threads
+pub mod Commands

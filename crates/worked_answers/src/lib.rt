@@ -6,11 +6,13 @@
 // stay proved; so each is used once the other way here. No value is made and nothing runs.
 #![tactic(auto)]
 
+mod commands;
 mod histories;
 mod logs;
 mod reports;
 mod streams;
 
+pub use commands::{commands_are_told, wants_are_told};
 pub use histories::{listings_are_told, threads_are_told};
 pub use logs::{keys_are_told, log_faults_are_told};
 pub use reports::report_faults_are_told;
