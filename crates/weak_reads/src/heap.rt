@@ -1,12 +1,13 @@
 // What stands on the heaps while cells are read: a list of objects that stays, two cells, and what threads allocate and
-// let go.
+// let go. A heap makes 65,535 objects and no more, also once some are freed: the words of the program leave room for
+// the list and for the object of the second cell, and threads allocate until a heap has made its last object.
 
 ghost use Rattle.std.specs.Prelude.{◌≡◌};
 ghost use Rattle.joint_machine.specs.Lines.{IsManagedAct};
 ghost use Rattle.weak_reads.specs.Racing.{GoesOn, IsReader, IsWorker};
 
 use joint_history::{Caller, Locks, Shared};
-use joint_model::{Act, Cell, Kind, Sort, StaticNo, Thread, Var};
+use joint_model::{Act, Cell, Kind, MNum, PNum, Reply, Sort, StaticNo, Thread, Var};
 use order_table::OrderName;
 use std::alloc::AllocError;
 use std::sync::Wait;
@@ -109,21 +110,35 @@ const BRIDGE: Act = Act::Bridge {
     peer_fields: 0,
 };
 
-/// Makes an object on the heap of the thread, and lets the one go that the thread made before.
+// The number of the last object that a heap makes.
+const LAST: u32 = 65_535;
+
+// Whether a heap with whose reply an object was made, or wasn't, may make another one. (A `bridge` on a managed heap
+// that has made its last object would leave a peer that nobody can give up.)
+fn has_room(reply: Reply) -> bool {
+    match reply {
+        Reply::M(MNum(m)) => m < LAST,
+        Reply::P(PNum(p)) => p < LAST,
+        _ => false,
+    }
+}
+
+/// Makes an object on the heap of the thread, and lets the one go that the thread made before. Answers whether the heap
+/// may make another one.
 pub(crate) fn allocate<N: OrderName>(
     rt: &impl Wait,
     shared: &Shared<N, Locks>,
     caller: &mut Caller<N>,
-) -> Result<(), AllocError>
+) -> Result<bool, AllocError>
     requires { IsWorker caller.old }
     ensures { GoesOn caller.old caller.new }
 {
-    match caller.thread() {
+    let receipt = match caller.thread() {
         Thread::M(_) => shared.managed(rt, caller, LINE, &BRIDGE)?,
         Thread::P(_) => shared.peer(rt, caller, LINE, &Act::NewPeer { v: A, fields: 1 })?,
         Thread::C => unreachable!(),
     };
-    Ok(())
+    Ok(has_room(receipt.reply))
 }
 
 /// Lets the object go that the thread made last.

@@ -116,22 +116,26 @@ fn read_all<N: OrderName>(
     race.figures.lock(rt).add(did)
 }
 
-// Makes so many objects.
+// Makes objects, where the heap has room, and answers whether it has room for more.
 fn allocate_some<N: OrderName>(
     rt: &impl Wait,
     shared: &Shared<N, Locks>,
     caller: &mut Caller<N>,
-) -> Result<(), AllocError>
+    has_room: bool,
+) -> Result<bool, AllocError>
     requires { IsWorker caller.old }
     ensures { GoesOn caller.old caller.new }
 {
-    for _ in 0..BURST {
-        allocate(rt, shared, caller)?;
+    let objects = if has_room { BURST } else { 0 };
+    for _ in 0..objects {
+        if !allocate(rt, shared, caller)? {
+            return Ok(false);
+        }
     }
-    Ok(())
+    Ok(has_room)
 }
 
-// Makes objects to the end, with a rest now and then, and lets all go.
+// Makes objects to the end, or until the heap is full, with a rest now and then, and lets all go.
 fn allocate_all<N: OrderName>(
     rt: &(impl Wait + Clock),
     shared: &Shared<N, Locks>,
@@ -141,11 +145,12 @@ fn allocate_all<N: OrderName>(
     requires { IsWorker caller.old }
     ensures { GoesOn caller.old caller.new }
 {
+    let mut has_room = true;
     for _ in rt.forever() {
         if race.end <= now(rt) {
             return let_go(rt, shared, caller);
         }
-        allocate_some(rt, shared, caller)?;
+        has_room = allocate_some(rt, shared, caller, has_room)?;
         sleep(rt, Duration::from_millis(REST));
     }
     unreachable!()

@@ -9,9 +9,11 @@
 // One race for each way of reading: `read_now`, which takes no lock and answers at once; the same where the thread's
 // pin is filled; `read_wait`, which takes no lock and waits for the end of a cycle; `managed`, the same read under the
 // managed lock; and, to compare with, an addition to a plain atomic word. Meanwhile the driver runs cycles, a peer
-// thread allocates, and so does a managed thread where one is left; each rests for a millisecond now and then. In the
-// first half of a race no clock is read between reads, and that half gives the reads a second; in the other half each
-// read is timed.
+// thread allocates, and so does a managed thread where one is left; each rests for a millisecond now and then, and to
+// the end once its heap has made the last of its 65,535 objects, after most of a second. In the first half of a race no
+// clock is read between reads, and that half gives the reads a second; in the other half each read is timed.
+//
+// Words that it doesn't take are answered with what is wrong, the forms and an example, and status 1.
 //
 // `race.rt` is the page to read for whoever wants threads on the bridge; `jobs.rt` has what the threads do. Who runs:
 // this thread sets up a race, waits for its threads, and has the history finished before it prints.
@@ -35,7 +37,7 @@ use plan::{Setup, Way};
 use race::{Over, run_race};
 use std::process::ExitCode;
 use std::{env, io};
-use words::command_of;
+use words::{USAGE, command_of};
 
 // Each way of reading, and what it is called.
 const WAYS: [(&'static str, Way); 5] = [
@@ -48,9 +50,12 @@ const WAYS: [(&'static str, Way); 5] = [
 
 fn main(rt: HostRuntime) -> io::Result<ExitCode> {
     let words: Vec<String> = env::args(&rt)?.skip(1).collect(rt.alloc())?;
-    let Some(command) = command_of(&words) else {
-        eprintln!(rt; "usage: weak_reads count|time MILLIS READERS OBJECTS")?;
-        return Ok(ExitCode::from(1));
+    let command = match command_of(&words) {
+        Ok(command) => command,
+        Err(mistake) => {
+            println!(rt; "weak_reads: {}\n{USAGE}", mistake.what())?;
+            return Ok(ExitCode::from(1));
+        }
     };
     if command.timed {
         println!(rt;

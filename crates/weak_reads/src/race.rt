@@ -6,6 +6,13 @@
 //    `Shared`, or of a `Driver` for thread c;
 // 3. a job for each caller, on a thread of its own (`jobs.rt`);
 // 4. all callers given back: the run is finished, and its history counted.
+//
+// What is full stays full: a heap makes 65,535 objects and 65,535 handles, also once some are freed. A call that would
+// make one more answers `full` and makes nothing, with one exception. `bridge` is two events, and where its peer is
+// made and its `adopt` answers `full`, the peer stays, under a handle that no object holds: no call takes that handle,
+// nothing frees the peer to the end of the run, and the reply doesn't name it. So a thread allocates no bridge object
+// behind number 65,535 of the managed heap, which the reply to its last one, or to another thread's, tells (`heap.rt`:
+// `has_room`); threads that share the heap agree before on how many each of them makes.
 
 ghost use Rattle.std.specs.Prelude.{◌≡◌, ◌<◌, ℕ, map, [], All, IfOk, Ok, slice_index_or, vec_len};
 ghost use Rattle.joint_machine.specs.LinkedHistories.{IsLinked};
